@@ -1,13 +1,13 @@
 -- If no row passes the limit without hold, hold changes nothing: each elimination is the same step by step.
-use Rattle.std.proofs.Common.{◌≡◌, ℕ, zero, suc, ◌<◌, ◌≤◌, Bool, true, false, cond, ◌&&◌, ltb, List, [], ◌∷◌, length, map, Option, Some, None, refl, sym, ◌∙◌, ap, ap₂, subst, arith}
+use Rattle.std.proofs.Common.{◌≡◌, ℕ, zero, suc, ◌<◌, ◌≤◌, true, false, cond, ltb, List, [], ◌∷◌, length, map, Option, Some, None, refl, sym, ◌∙◌, ap, ap₂, subst, arith}
 use Rattle.std.proofs.lemmas.Bool.{false_from_ne_true, lt-ltb, ltb-true}
 use Rattle.clause_flatten.specs.Locality.{StandsIn}
 use Rattle.clause_flatten.proofs.{LocalRuns.{limit_is_local_lem}, Passing.{passes_none}}
-use Rattle.listed.specs.Lists.{In, here, there}
+use Rattle.listed.specs.Lists.{In}
 use Rattle.listed.proofs.Lists.{any_cases}
 use Rattle.row_book.specs.{Merging.{class_of, quotient}, Pruning.{prune}, Repository.{Repository, clauses_of}, Sets.{plus, without}, Sound.{SoundRepository}}
 use Rattle.row_book.specs.Thinning.{thin}
-use Rattle.row_book.specs.Flattening.{all_packages, core_of, flat, gone_or_held, next_gone, packages, passes, passes_over, remaining_after, row_length, rows_over}
+use Rattle.row_book.specs.Flattening.{all_packages, flat, gone_or_held, next_gone, packages, passes, passes_over, remaining_after, row_length, rows_over}
 use Rattle.row_book.specs.Rounds.{class_after, kernel, kernel_class, limit_at, round, round_count, rounds}
 use Rattle.row_book.proofs.Repositories.{of_packages, ranged}
 use Rattle.kernel_rounds.specs.Laws.{HoldIsUnused}

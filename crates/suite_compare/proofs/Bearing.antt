@@ -1,7 +1,7 @@
 -- The packages that bear the names of an old side: which names these are, and the classes of the packages.
 use Rattle.std.{proofs.Common.{◌≡◌, ℕ, ◌<◌, ◌+◌, zero, suc, Bool, true, false, not, eqb, cond, filter, List, [], ◌∷◌, ◌++◌, length, get_or, map, refl, ◌∙◌, ap, ap₂, subst, sym, arith}, specs.Str.{bytes_eq}, proofs.lemmas.Bool.{both_ways, ne_eqb}, proofs.lemmas.List.{append-nil, get_or-map, length-map}, proofs.lemmas.List.Elements.{filter-append}}
-use Rattle.row_book.{specs.Needs.{AreNeeds, NeedsFit}, specs.Book.{listed_for, repository_of}, specs.Numbers.{numbers}, specs.Repository.{Repository}, specs.declared.book.Book.{Book}, specs.Flattening.{packages}, specs.Rounds.{kernel, kernel_class, kernel_image}, proofs.Numbers.{numbers_more, numbers_parts}}
-use Rattle.listed.{specs.Lists.{Ascending, has, In, here, there}, proofs.Lists.{any_none, filled, filter_cases, filter_same, has_not, In_at, In_map, In_map_cases, In_none, In_place, none_in}}
+use Rattle.row_book.{specs.Needs.{AreNeeds, NeedsFit}, specs.Book.{listed_for}, specs.Numbers.{numbers}, specs.Repository.{Repository}, specs.declared.book.Book.{Book}, specs.Flattening.{packages}, specs.Rounds.{kernel, kernel_class, kernel_image}, proofs.Numbers.{numbers_more, numbers_parts}}
+use Rattle.listed.{specs.Lists.{Ascending, has, In}, proofs.Lists.{any_none, filled, filter_cases, filter_same, has_not, In_at, In_map_cases, In_none, In_place, none_in}}
 use Rattle.relation_fields.{specs.declared.packages.Home.{Home}, specs.declared.packages.PackageFacts.{PackageFacts}}
 use Rattle.repo_model.{specs.Goals.{any_version, packages_named}, specs.Repository.{suite_repository}, specs.Stanzas.{no_stanza, stanza_at}, proofs.Chosen.{named_is, number_cases}, proofs.Packages.{length_clauses}}
 use Rattle.clause_pool.specs.Interned.{Interned}

@@ -1,7 +1,7 @@
 use Rattle.std.proofs.Common.{[], ◌∙◌, ◌<◌, ap, filter, subst, sym}
 use Rattle.listed.specs.Lists.{In}
 use Rattle.listed.proofs.Lists.{In_at, filter_cases}
-use Rattle.row_book.specs.{Book.{listed_for}, Flags.{flag}}
+use Rattle.row_book.specs.Flags.{flag}
 use Rattle.row_book.proofs.Flags.{flag_in}
 use Rattle.suite_compare.specs.Bearers.{AreClasses}
 use Rattle.suite_compare.proofs.Groups.{each_more, each_none}

@@ -1,7 +1,5 @@
-use Rattle.std.proofs.Common.{[], arith}
+use Rattle.std.proofs.Common.{[]}
 use Rattle.listed.proofs.Lists.{In_at}
-use Rattle.row_book.specs.Book.{listed_for}
-use Rattle.suite_compare.specs.{Bearers.{AreClasses}, Groups.{AreEach}}
 use Rattle.suite_compare.proofs.Groups.{each_more, each_none}
 use Rattle.suite_compare.proofs.bearers.classes_of_each.Goals as goal
 

@@ -1,4 +1,4 @@
-use Rattle.std.{proofs.Common.{◌≡◌, ◌∙◌, ap, filter, get_or, length, map, refl, sym, subst}, proofs.lemmas.List.{length-map}}
+use Rattle.std.{proofs.Common.{◌≡◌, ◌∙◌, ap, filter, get_or, length, map, sym, subst}, proofs.lemmas.List.{length-map}}
 use Rattle.row_book.specs.Book.{listed_for}
 use Rattle.suite_compare.specs.{Bearers.{filled_places}, Comparing.{new_verdict, AreVerdicts, IsSide}, Names.{stands_in}}
 use Rattle.suite_compare.proofs.Bearing.{images_at, lists_fit, lists_need, names_among, names_borne, places_within}

@@ -1,4 +1,4 @@
-use Rattle.std.{proofs.Common.{◌≡◌, ◌∙◌, List, ℕ, ap, length, map, subst, sym}, proofs.lemmas.List.{length-map}, proofs.lemmas.Result.{IfOk-weaker}}
+use Rattle.std.{proofs.Common.{◌≡◌, ◌∙◌, List, ℕ, ap, length, subst}, proofs.lemmas.List.{length-map}, proofs.lemmas.Result.{IfOk-weaker}}
 use Rattle.repo_model.specs.Goals.{any_version}
 use Rattle.suite_compare.specs.{Asking.{image_of}, Bearers.{bearer_classes}, Comparing.{IsSide}}
 use Rattle.suite_compare.proofs.{Bearing.{all_need, bearers_each, bearers_known, images_fit}, Named.{verdicts_are}}

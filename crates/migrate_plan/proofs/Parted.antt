@@ -118,13 +118,9 @@ pub can_follow : (whole : Whole) (base : Option Base) (flags : List Bool) (made 
 can_follow whole base flags (Own pool kernel class_of) has = tt
 can_follow whole base flags (Beside classified rows) has = λ before is. (has before is).base_rows
 
--- the limit that equal packages pass
-module _ (limit : ℕ) (hold : Bool) (home : Home) (some others : List PackageFacts) (same : some ≡ others) where
-  pub none_within : limit_at limit hold (suite_repository home some) ≡ None → limit_at limit hold (suite_repository home others) ≡ None
-  none_within within = subst (λ packages. limit_at limit hold (suite_repository home packages) ≡ None) same within
-
-  pub over_of : (passed : PassedRound) → limit_at limit hold (suite_repository home some) ≡ Some passed → limit_at limit hold (suite_repository home others) ≡ Some passed
-  over_of passed there = subst (λ packages. limit_at limit hold (suite_repository home packages) ≡ Some passed) same there
+-- the limit that equal packages do not pass
+pub none_within : (limit : ℕ) (hold : Bool) (home : Home) (some others : List PackageFacts) → some ≡ others → limit_at limit hold (suite_repository home some) ≡ None → limit_at limit hold (suite_repository home others) ≡ None
+none_within limit hold home some others same within = subst (λ packages. limit_at limit hold (suite_repository home packages) ≡ None) same within
 
 -- a book of packages has as many rows
 pub book_long : (pool : Interned) (book : Book) (home : Home) (packages : List PackageFacts) → IsBookOf pool book (suite_repository home packages) → length book.rows ≡ length packages
@@ -134,9 +130,8 @@ book_long pool book home packages is = sym (length-map book.rows (row_at pool)) 
 pub book_alike : (pool : Interned) (book : Book) (home other : Home) (packages others : List PackageFacts) → home ≡ other → packages ≡ others → IsBookOf pool book (suite_repository home packages) → IsBookOf pool book (suite_repository other others)
 book_alike pool book home other packages others same are is = subst (λ ps. IsBookOf pool book (suite_repository other ps)) are (subst (λ h. IsBookOf pool book (suite_repository h packages)) same is)
 
--- the kernel of a mix as a comparison asks it, and the classes of the packages that bear each old name
-module _ (whole : Whole) (is : IsWhole whole) (flags : List Bool) (fits : length flags ≡ length (packages_of_both whole)) (limit : ℕ) (hold : Bool) (made : MadeKernel)
-    (given : IsMadeKernel limit hold (repository_of whole.pool whole.book) flags made) where
+-- a mix of the packages of a whole
+module _ (whole : Whole) (is : IsWhole whole) (flags : List Bool) (fits : length flags ≡ length (packages_of_both whole)) where
   abbrev all : List PackageFacts
   all = packages_of_both whole
 
@@ -146,28 +141,34 @@ module _ (whole : Whole) (is : IsWhole whole) (flags : List Bool) (fits : length
   abbrev W : Repository
   W = repository_of whole.pool whole.book
 
-  abbrev names : List (List ℕ)
-  names = whole.old.now.names
-
   -- the part of the whole is the repository of the mix
   pub mix_is : part flags W ≡ suite_repository whole.home mix
   mix_is = ap (part flags) is.book_is.repository ∙ sym (repository_part whole.home all flags fits)
 
-  pub mix_within : limit_at limit hold (suite_repository whole.home mix) ≡ None
-  mix_within = ap (limit_at limit hold) (sym mix_is) ∙ given.within
+  -- it passes a limit as its part does
+  pub mix_over : (limit : ℕ) (hold : Bool) (passed : PassedRound) → limit_at limit hold (part flags W) ≡ Some passed → limit_at limit hold (suite_repository whole.home mix) ≡ Some passed
+  mix_over limit hold passed there = ap (limit_at limit hold) (sym mix_is) ∙ there
 
-  pub lent_is : (lent : LentKernel) → lent.pool.now ≡ pool_made made → lent.book.now ≡ book_made made → IsLentKernel lent limit hold (suite_repository whole.home mix)
-  lent_is lent pool book =
-      subst (λ R. IsBookOf lent.pool.now lent.book.now (kernel limit hold R)) mix_is
-      (subst (λ p. IsBookOf p lent.book.now (kernel limit hold (part flags W))) (sym pool) (subst (λ b. IsBookOf (pool_made made) b (kernel limit hold (part flags W))) (sym book) given.book_is))
+  -- its kernel as a comparison asks it, and the classes of the packages that bear each old name
+  module _ (limit : ℕ) (hold : Bool) (made : MadeKernel) (given : IsMadeKernel limit hold W flags made) where
+    abbrev names : List (List ℕ)
+    names = whole.old.now.names
 
-  pub bearers_within : (named : List (List ℕ)) → named ≡ whole.named.items → (list : List ℕ) → In list named → (n : ℕ) → In n list → n < length flags
-  bearers_within named e list i n j =
-      let w = In_map_cases (λ name. packages_named all (any_version name)) names list (subst (λ lists. In list lists) (e ∙ is.named_are) i) in
-      subst (λ size. n < size) (sym fits) (named_inside all (any_version w.0) n (subst (λ z. In n z) w.2 j))
+    pub mix_within : limit_at limit hold (suite_repository whole.home mix) ≡ None
+    mix_within = ap (limit_at limit hold) (sym mix_is) ∙ given.within
 
-  pub images_made : (class_of : List ℕ) (named images : List (List ℕ)) → class_of ≡ classes_made made → named ≡ whole.named.items
-      → AreEach (λ i image. AreClasses class_of (filter (flag flags) (listed_for named i)) image) [] (length named) images → images ≡ bearer_classes limit hold whole.home mix names
-  images_made class_of named images e f each =
-      mix_images limit hold W (sound_repository whole.pool whole.book is.book_is.sound.rows.is_pool is.book_is.sound) flags (fits ∙ sym (length_clauses whole.home all) ∙ ap (λ R. length R.clauses) (sym is.book_is.repository))
-      whole.home all is.book_is.repository fits class_of (λ p up. ap (λ z. class_in z p) e ∙ given.class_of p up) names named images (f ∙ is.named_are) each
+    pub lent_is : (lent : LentKernel) → lent.pool.now ≡ pool_made made → lent.book.now ≡ book_made made → IsLentKernel lent limit hold (suite_repository whole.home mix)
+    lent_is lent pool book =
+        subst (λ R. IsBookOf lent.pool.now lent.book.now (kernel limit hold R)) mix_is
+        (subst (λ p. IsBookOf p lent.book.now (kernel limit hold (part flags W))) (sym pool) (subst (λ b. IsBookOf (pool_made made) b (kernel limit hold (part flags W))) (sym book) given.book_is))
+
+    pub bearers_within : (named : List (List ℕ)) → named ≡ whole.named.items → (list : List ℕ) → In list named → (n : ℕ) → In n list → n < length flags
+    bearers_within named e list i n j =
+        let w = In_map_cases (λ name. packages_named all (any_version name)) names list (subst (λ lists. In list lists) (e ∙ is.named_are) i) in
+        subst (λ size. n < size) (sym fits) (named_inside all (any_version w.0) n (subst (λ z. In n z) w.2 j))
+
+    pub images_made : (class_of : List ℕ) (named images : List (List ℕ)) → class_of ≡ classes_made made → named ≡ whole.named.items
+        → AreEach (λ i image. AreClasses class_of (filter (flag flags) (listed_for named i)) image) [] (length named) images → images ≡ bearer_classes limit hold whole.home mix names
+    images_made class_of named images e f each =
+        mix_images limit hold W (sound_repository whole.pool whole.book is.book_is.sound.rows.is_pool is.book_is.sound) flags (fits ∙ sym (length_clauses whole.home all) ∙ ap (λ R. length R.clauses) (sym is.book_is.repository))
+        whole.home all is.book_is.repository fits class_of (λ p up. ap (λ z. class_in z p) e ∙ given.class_of p up) names named images (f ∙ is.named_are) each

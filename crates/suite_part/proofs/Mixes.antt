@@ -1,5 +1,5 @@
 -- The rows of a mix in the numbers of all packages: their part is the flattened part, and their groups are its classes.
-use Rattle.std.proofs.Common.{◌≡◌, ℕ, zero, suc, ◌<◌, ◌≤◌, Bool, true, false, List, [], ◌∷◌, length, get_or, map, refl, sym, ◌∙◌, ap, ap₂, subst, arith}
+use Rattle.std.proofs.Common.{◌≡◌, ℕ, ◌<◌, Bool, true, false, List, [], ◌∷◌, length, map, refl, sym, ◌∙◌, ap, ap₂, subst, arith}
 use Rattle.row_book.specs.{Parts.{chosen_in, clause_in, clauses_in, number_in, numbers_up, part, place_in}, declared.book.Book.{Book}, Book.{repository_of}}
 use Rattle.row_book.specs.{Flags.{flag}, Flattening.{core_of, flat}, Merging.{class_of, quotient}, Repository.{Repository, clauses_of}, Sound.{SoundRepository}}
 use Rattle.row_book.specs.Support.{row}
@@ -9,8 +9,7 @@ use Rattle.class_merge.specs.{Masks.{AreGrouped, IsMasked, IsQuotientOfPart, mas
 use Rattle.class_merge.proofs.Quotients.{quotient_of_part_lem}
 use Rattle.std.specs.List.{items_where_true}
 use Rattle.clause_pool.specs.{Compacting.{RowsOf}, Interned.{Interned, IsPool, row_at}, Lists.{InOrder}}
-use Rattle.suite_part.specs.{declared.base.Base.{Base}, Mixes.{repository_in, AreMixRows, AreRowsOfMix, FlatOfPart, IsMergedMix, MergedMix}}
-use Rattle.suite_part.specs.Bases.{row_of_part}
+use Rattle.suite_part.specs.{declared.base.Base.{Base}, Mixes.{repository_in, AreMixRows, AreRowsOfMix, IsMergedMix, MergedMix}}
 use Rattle.clause_flatten.proofs.TidyFlat.{flat_conflicts, flat_order, flat_row, flat_size, flat_sound}
 use Rattle.listed.specs.Lists.{In, here, there}
 use Rattle.listed.proofs.Lists.{In_map_cases}
@@ -113,9 +112,6 @@ module _ (limit : ℕ) (W : Repository) (flags : List Bool) (F : Repository) (ar
         conflicts = q.conflicts ∙ ap (λ R. (quotient R).conflicts) flat_back;
         classes = λ p up. q.classes p up ∙ ap (λ R. class_of R (place_in flags p)) flat_back;
       }
-
-pub flat_of_part_lem : FlatOfPart
-flat_of_part_lem limit W flags F are = flat_back limit W flags F are
 
 pub merged_mix_lem : MergedMix
 merged_mix_lem limit W flags F least group_of are grouped = merged limit W flags F are least group_of grouped

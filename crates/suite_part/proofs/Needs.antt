@@ -1,10 +1,10 @@
 -- What packages of a mix that have changed need there.
-use Rattle.std.proofs.Common.{◌≡◌, ℕ, ◌+◌, ◌<◌, ◌≤◌, ◌⊎◌, Bool, true, false, ◌&&◌, cond, List, [], ◌∷◌, ◌++◌, length, get_or, filter, take, inl, inr, refl, sym, ◌∙◌, ap, subst, arith, append-nil, append_assoc}
+use Rattle.std.proofs.Common.{◌≡◌, ℕ, ◌+◌, ◌<◌, ◌⊎◌, Bool, true, false, ◌&&◌, cond, List, [], ◌∷◌, ◌++◌, length, get_or, filter, take, inl, inr, refl, sym, ◌∙◌, ap, subst, arith, append-nil, append_assoc}
 use Rattle.std.proofs.{lemmas.Bool.{and_from, and_parts, both_ways, cases_eq}, lemmas.List.{map-append, take_more}, lemmas.List.Elements.{filter_more}}
 use Rattle.clause_pool.specs.Interned.{Interned, clause_at, clauses_at, row_at}
-use Rattle.listed.specs.Lists.{In, here, there}
-use Rattle.listed.proofs.Lists.{In_append_cases, In_append_left, In_append_right, In_at, In_cases, In_map_cases, In_none, filter_cases, filter_from}
-use Rattle.row_book.specs.{declared.book.Book.{Book}, Book.{repository_of, Sound}, Flags.{flag}, Repository.{clauses_of}, Uses.{row_id}}
+use Rattle.listed.specs.Lists.{In, here}
+use Rattle.listed.proofs.Lists.{In_append_cases, In_append_left, In_append_right, In_cases, In_none, filter_cases, filter_from}
+use Rattle.row_book.specs.{declared.book.Book.{Book}, Book.{repository_of}, Flags.{flag}, Uses.{row_id}}
 use Rattle.row_book.proofs.{Books.{clauses_row}, Flags.{flag_in}}
 use Rattle.suite_part.specs.{Bases.{Flags}, Small.{members_in, AreNeeded}}
 
@@ -24,17 +24,6 @@ flags_join ps qs before mid after work more most f g = record {
     | inr i ↦ inr i
   ];
   only = λ n i. elim (g.only n i) [ inl j ↦ f.only n j | inr l ↦ inr (subst (λ z. n < z) f.size l) ];
-}
-
-pub flags_none : (before : List Bool) (work : List ℕ) → Flags [] before work before work
-flags_none before work = record {
-  size = refl;
-  stays = λ n u. u;
-  all = λ n i. absurd (In_none i);
-  own = λ n u. inl u;
-  waits = λ n i. i;
-  gains = λ n u. inl u;
-  only = λ n i. inl i;
 }
 
 -- the members of clauses

@@ -1,6 +1,6 @@
 -- Of packages that conflict with packages of a mix, one that each conflicts with.
 use Rattle.std.proofs.Common.{◌≡◌, ℕ, ◌<◌, ◌≤◌, ◌+◌, ◌⊎◌, Bool, true, false, List, length, set, inl, inr, sym, ◌∙◌, ap, subst, arith}
-use Rattle.std.proofs.{lemmas.Bool.{both_ways, cases_eq}, lemmas.List.{get_or-set_other, get_or-set_same, length-set}}
+use Rattle.std.proofs.{lemmas.Bool.{both_ways, cases_eq}, lemmas.List.{get_or-set_same}}
 use Rattle.std.specs.List.{list_any}
 use Rattle.listed.specs.Lists.{In}
 use Rattle.listed.proofs.Lists.{any_cases, any_from}
@@ -10,18 +10,6 @@ use Rattle.suite_part.specs.Small.{HasRivals}
 
 -- one more flag
 module _ (apart : List Bool) (x : ℕ) (l : x < length apart) where
-  pub up_stays : (n : ℕ) → flag apart n ≡ true → flag (set apart x true) n ≡ true
-  up_stays n u = elim (cases_eq n x) [
-    | inl e ↦ subst (λ z. flag (set apart x true) z ≡ true) (sym e) (get_or-set_same apart x true false l)
-    | inr d ↦ get_or-set_other apart x n true false d ∙ u
-  ]
-
-  pub up_gains : (flags : List Bool) → flag flags x ≡ true → (n : ℕ) → flag (set apart x true) n ≡ true → (flag apart n ≡ true) ⊎ (flag flags n ≡ true)
-  up_gains flags v n u = elim (cases_eq n x) [
-    | inl e ↦ inr (subst (λ z. flag flags z ≡ true) (sym e) v)
-    | inr d ↦ inl (sym (get_or-set_other apart x n true false d) ∙ u)
-  ]
-
   pub one_up : (ns : List ℕ) → In x ns → list_any (flag (set apart x true)) ns ≡ true
   one_up ns i = any_from (flag (set apart x true)) ns x i (get_or-set_same apart x true false l)
 

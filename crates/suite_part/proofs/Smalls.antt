@@ -3,7 +3,7 @@ use Rattle.std.proofs.Common.{◌≡◌, ℕ, ◌<◌, ◌≤◌, Bool, true, fa
 use Rattle.std.proofs.{lemmas.Bool.{and_from, and_parts, both_ways, cases_Bool, cases_eq, cases_lt, lt-ltb, ltb-true}, lemmas.Simd.{map-map}}
 use Rattle.row_book.specs.{Parts.{chosen_in, clauses_in, number_in, numbers_up, part, place_in, row_in}, Flags.{flag}}
 use Rattle.row_book.specs.{Flattening.{core_of, has_conflict, passes, remaining_after, row_length}, Numbers.{numbers}}
-use Rattle.row_book.specs.{Repository.{Repository, clauses_of, conflicts_of}, Sets.{NumSet}, Sound.{OfPackages, SoundRepository}, Support.{row}}
+use Rattle.row_book.specs.{Repository.{Repository, clauses_of, conflicts_of}, Sets.{NumSet}, Sound.{OfPackages}, Support.{row}}
 use Rattle.row_book.proofs.Numbered.{number_back, up_ascends, up_count}
 use Rattle.row_book.proofs.Placed.{HasPlace, IsChosen, at_place, chosen_cases, count_in, place_below, place_rises}
 use Rattle.row_book.proofs.Parts.{clauses_through, map_alike, part_count, part_row, row_moved}

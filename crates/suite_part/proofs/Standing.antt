@@ -1,23 +1,23 @@
 -- Packages of a base that stand as they are in another part: their rows there are known, and in the numbers of the book they stay.
-use Rattle.std.proofs.Common.{◌≡◌, ℕ, ◌<◌, ◌≤◌, Bool, true, false, not, ◌&&◌, ◌||◌, cond, ltb, List, [], ◌∷◌, length, map, filter, Some, None, inl, inr, refl, sym, ◌∙◌, ap, ap₂, subst, arith}
-use Rattle.std.proofs.lemmas.Bool.{and_from, and_parts, cases_Bool, cases_lt, lt-ltb, ltb-true, not-true, not_from_false, or_cases, or_left}
-use Rattle.std.proofs.{lemmas.List.{get_or_past, take_all}, lemmas.Option.{same_Some}, lemmas.Simd.{map-map}}
-use Rattle.row_book.proofs.Parts.{ordered_already, clauses_through, map_alike, part_conflicts, part_count, part_row, row_moved, row_whole}
-use Rattle.row_book.proofs.{Numbered.{number_back, up_ascends, up_count}, PartSound.{made_at, made_count, part_sound}}
-use Rattle.row_book.proofs.{BookRepositories.{book_size, sound_repository}, Books.{clauses_row}, Flags.{flag_in}, Repositories.{between, in_packages}}
+use Rattle.std.proofs.Common.{◌≡◌, ℕ, ◌<◌, ◌≤◌, Bool, true, false, not, ◌&&◌, ◌||◌, ltb, List, length, map, filter, inl, inr, sym, ◌∙◌, ap, subst, arith}
+use Rattle.std.proofs.lemmas.Bool.{and_from, and_parts, lt-ltb, ltb-true, not-true, not_from_false, or_cases, or_left}
+use Rattle.std.proofs.{lemmas.Simd.{map-map}}
+use Rattle.row_book.proofs.Parts.{clauses_through, map_alike, part_conflicts, part_count, part_row, row_moved, row_whole}
+use Rattle.row_book.proofs.{Numbered.{number_back, up_ascends, up_count}, PartSound.{part_sound}}
+use Rattle.row_book.proofs.{BookRepositories.{book_size, sound_repository}, Flags.{flag_in}, Repositories.{between, in_packages}}
 use Rattle.row_book.proofs.Placed.{count_in, at_place, chosen_cases, chosen_from, place_below, place_rises, HasPlace, IsChosen}
-use Rattle.row_book.specs.{Parts.{clause_in, clauses_in, number_in, numbers_up, chosen_in, part, place_in, row_in}, declared.book.Book.{Book}}
+use Rattle.row_book.specs.{Parts.{clauses_in, number_in, numbers_up, chosen_in, part, place_in, row_in}, declared.book.Book.{Book}}
 use Rattle.row_book.specs.{Book.{repository_of, Sound}, Flags.{flag}, Flattening.{core_of, has_conflict, packages, remaining_after, row_length}}
 use Rattle.row_book.specs.{Repository.{Repository, against, clauses_of, conflicts_of}, Sets.{NumSet}, Sound.{SoundRepository}, Support.{row}, Uses.{row_id}}
-use Rattle.std.specs.{Prelude.{Option, slice_index_or}, List.{list_all, list_any}}
+use Rattle.std.specs.{Prelude.{Option}, List.{list_all, list_any}}
 use Rattle.clause_pool.specs.{Clauses.{in_row_order}, Interned.{Interned, clause_at, clauses_at, row_at}, Lists.{InOrder}}
-use Rattle.clause_pool.proofs.Order.{ordered_has, ordered_order, ordered_parts}
-use Rattle.listed.specs.Lists.{In, here, there}
-use Rattle.listed.proofs.{Bools.{same_bool}, Lists.{In_at, In_has, In_map, In_map_cases, all_at, any_cases, any_from, filter_cases, filter_same, has_In}}
+use Rattle.clause_pool.proofs.Order.{ordered_parts}
+use Rattle.listed.specs.Lists.{In, there}
+use Rattle.listed.proofs.{Bools.{same_bool}, Lists.{In_has, In_map_cases, all_at, any_cases, any_from, filter_cases, filter_same, has_In}}
 use Rattle.clause_flatten.specs.Locality.{StandsIn}
-use Rattle.clause_flatten.proofs.{LocalRuns.{flat_is_local_lem, flat_stays, limit_is_local_lem}, Tables.{row_order}}
+use Rattle.clause_flatten.proofs.{LocalRuns.{flat_is_local_lem, flat_stays, limit_is_local_lem}}
 use Rattle.suite_part.specs.{declared.base.Base.{Base}, Bases.{row_of_part, AreChanged, IsBase, StaysAs}, Left.{AreLeft}}
-use Rattle.suite_part.proofs.{Backs.{clauses_in_order, numbers_rise}, Lefts.{none_some}, Parted.{same_order}}
+use Rattle.suite_part.proofs.{Backs.{numbers_rise}}
 
 -- so for a row of which each clause is told to be whole
 pub whole_row : (from pool : Interned) (flags : List Bool) (known : List (Option ℕ)) (whole given : List Bool) (row ids : List ℕ)
@@ -57,11 +57,6 @@ module _ (R : Repository) (s : SoundRepository R) (flags : List Bool) (size : le
       let w : (m : ℕ) × In m (conflicts_of R x) × (flag flags m ≡ true) = any_cases (flag flags) (conflicts_of R x) h in
       conflict_from (part flags R) (part_sound R flags s size) (place_in flags x) (place_in flags w.0)
       (subst (λ z. In (place_in flags w.0) z) (sym (part_conflicts R s flags size x up)) (chosen_from flags (conflicts_of R x) w.0 w.1 w.2)))
-
--- the clauses of a sound book are in order
-pub rows_order : (from : Interned) (book : Book) → Sound from book → (x : ℕ) → x < length book.rows → InOrder (clauses_of (repository_of from book) x)
-rows_order from book sound x l =
-    subst InOrder (sym (clauses_row from book x l)) (sound.rows.is_pool.in_order (row_id book.rows x) (sound.rows.of_pool (row_id book.rows x) (In_at book.rows x 0 l)))
 
 -- packages of a part that are not changed in another one
 module _ (W : Repository) (s : SoundRepository W) (own flags changed : List Bool) (own_size : length own ≡ length W.clauses) (size : length flags ≡ length W.clauses)

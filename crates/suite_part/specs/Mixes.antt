@@ -15,10 +15,6 @@ pub record AreRowsOfMix (limit : ℕ) (W : Repository) (flags : List Bool) (F : 
   pub conflicts : F.conflicts ≡ W.conflicts
   pub rows : (p : ℕ) → flag flags p ≡ true → clauses_of F p ≡ row_of_part limit flags W p
 
--- their part is the flattened part
-abbrev pub FlatOfPart : Type 0
-FlatOfPart = (limit : ℕ) (W : Repository) (flags : List Bool) (F : Repository) → AreRowsOfMix limit W flags F → part flags F ≡ flat limit false (part flags W)
-
 -- and their groups are what the first round merges of the mix
 pub record IsMergedMix (limit : ℕ) (W : Repository) (flags : List Bool) (F : Repository) (least group_of : List ℕ) : Type 0 where
   pub clauses : map (group_clauses F least group_of) (numbers (length least) 0) ≡ (quotient (flat limit false (part flags W))).clauses

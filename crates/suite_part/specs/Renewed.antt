@@ -1,6 +1,6 @@
 -- for the bodies of this crate alone
 -- The rows of a base with some of them made anew.
-use Rattle.std.specs.Prelude.{◌≡◌, ℕ, ◌<◌, ◌++◌, Bool, true, false, List, [], Option, Some, length, replicate}
+use Rattle.std.specs.Prelude.{◌≡◌, ℕ, ◌<◌, ◌++◌, Bool, true, false, List, [], length, replicate}
 use Rattle.clause_pool.specs.Interned.{Interned, ids_at, row_at, OfPool}
 use Rattle.listed.specs.Lists.{In}
 use Rattle.row_book.specs.{Flags.{flag}, Parts.{clauses_in, numbers_up, place_in}, Uses.{row_id}}

@@ -12,13 +12,27 @@ pub classes_of_chosen-requires-clause-classes : goal.classes_of_chosen-requires-
 classes_of_chosen-requires-clause-classes c = ap length c.classes_in.ensures ∙ c.requires.kernel.size
 
 pub first_line_by-first-requires-clause-fits : goal.first_line_by-first-requires-clause-fits
-first_line_by-first-requires-clause-fits c = ?
+first_line_by-first-requires-clause-fits c =
+    let whole = c.args.whole.now in
+    let view = whole.old.now.view.now in
+    let flags = c.args.flags.now in
+    let lent = c.lent_kernel-kernel.result in
+    classes_fit view.limit view.kernel.hold whole.home (items_where_true flags (packages_of_both whole)) lent whole.old.now.names c.in_ok-classes.classes.items
+    (lent_is whole c.requires.whole flags c.requires.flags view.limit view.kernel.hold c.args.made.now c.requires.kernel lent c.lent_kernel-kernel.ensures.pool c.lent_kernel-kernel.ensures.book)
+    (images_made whole c.requires.whole flags c.requires.flags view.limit view.kernel.hold c.args.made.now c.requires.kernel _ _ _ c.classes_in.ensures c.deref.ensures.value c.in_ok-classes.ensures)
 
 pub first_line_by-first-requires-clause-count : goal.first_line_by-first-requires-clause-count
-first_line_by-first-requires-clause-count c = ?
+first_line_by-first-requires-clause-count c = c.in_ok-classes.ensures.long ∙ ap length (c.deref.ensures.value ∙ c.requires.whole.named_are) ∙ length-map c.args.whole.now.old.now.names _
 
 pub first_line_by-first-requires-clause-known : goal.first_line_by-first-requires-clause-known
 first_line_by-first-requires-clause-known c = λ pairs is. c.requires.known pairs (sym c.take.ensures.value ∙ is)
 
 pub returns-clause-told : goal.returns-clause-told
-returns-clause-told c = ?
+returns-clause-told c =
+    let whole = c.args.whole.now in
+    let view = whole.old.now.view.now in
+    let flags = c.args.flags.now in
+    let lent = c.lent_kernel-kernel.result in
+    rw c.in_ok-line.was at (c.first_line_by-first.ensures.first whole.home (items_where_true flags (packages_of_both whole))
+    (lent_is whole c.requires.whole flags c.requires.flags view.limit view.kernel.hold c.args.made.now c.requires.kernel lent c.lent_kernel-kernel.ensures.pool c.lent_kernel-kernel.ensures.book)
+    (images_made whole c.requires.whole flags c.requires.flags view.limit view.kernel.hold c.args.made.now c.requires.kernel _ _ _ c.classes_in.ensures c.deref.ensures.value c.in_ok-classes.ensures))

@@ -1,4 +1,4 @@
-use Rattle.std.proofs.{Common.{◌≡◌, ◌<◌, ◌∙◌, ap, arith, false, get_or, length, subst, sym, true}, lemmas.Option.{same_Some}}
+use Rattle.std.proofs.{Common.{◌≡◌, arith, false, subst, true}, lemmas.Option.{same_Some}}
 use Rattle.listed.specs.Lists.{In}
 use Rattle.listed.proofs.Lists.{In_at, In_place}
 use Rattle.row_book.specs.Flags.{flag}

@@ -1,4 +1,4 @@
-use Rattle.std.proofs.Common.{◌≡◌, ◌<◌, ◌∙◌, ℕ, [], ◌∷◌, ap, get_or, inl, inr, length, subst, sym}
+use Rattle.std.proofs.Common.{◌<◌, ◌∙◌, ap, get_or, inl, inr, length, subst, sym}
 use Rattle.listed.proofs.Lists.{In_at, In_cases, In_none}
 use Rattle.suite_part.proofs.Needs.{each_down, each_up}
 use Rattle.suite_part.proofs.small.need_each.Goals as goal

@@ -1,4 +1,4 @@
-use Rattle.std.proofs.Common.{◌<◌, length, refl}
+use Rattle.std.proofs.Common.{refl}
 use Rattle.suite_part.proofs.Rivals.{one_up}
 use Rattle.suite_part.proofs.small.put_rival.Goals as goal
 

@@ -1,4 +1,4 @@
-use Rattle.std.proofs.{Common.{◌≡◌, ◌<◌, ◌∙◌, ap, cond, length, subst, sym}, lemmas.List.{get_or_read}}
+use Rattle.std.proofs.{Common.{◌≡◌, ◌<◌, ◌∙◌, ap, cond, subst, sym}, lemmas.List.{get_or_read}}
 use Rattle.row_book.specs.{Flags.{flag}, Numbers.{numbers}, Parts.{number_in}, Uses.{row_id}}
 use Rattle.listed.proofs.Lists.{In_at}
 use Rattle.suite_part.proofs.SmallMade.{row_more}

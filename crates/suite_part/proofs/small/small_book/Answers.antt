@@ -1,7 +1,7 @@
-use Rattle.std.proofs.Common.{◌≡◌, ◌<◌, ◌∙◌, ap, cond, length, map, refl, subst, sym}
+use Rattle.std.proofs.Common.{◌≡◌, ◌∙◌, ap, cond, length, subst, sym}
 use Rattle.clause_pool.specs.Interned.{clauses_at}
 use Rattle.listed.specs.Lists.{In}
-use Rattle.row_book.specs.{Flags.{flag}, Numbers.{numbers}, Parts.{number_in, numbers_up}, Uses.{row_id}, Book.{repository_of}}
+use Rattle.row_book.specs.{Flags.{flag}, Parts.{number_in, numbers_up}, Uses.{row_id}, Book.{repository_of}}
 use Rattle.row_book.proofs.Numbers.{length_numbers}
 use Rattle.suite_part.proofs.SmallMade.{apart_there, numbers_count, numbers_within, rows_told, small_is, small_sound}
 use Rattle.suite_part.specs.Small.{AreApart}

@@ -1,4 +1,4 @@
-use Rattle.std.proofs.{Common.{◌≡◌, ◌∙◌, ap, length, refl, subst, sym}, lemmas.Option.{none-some, same_Some}}
+use Rattle.std.proofs.{Common.{◌∙◌, ap, length, refl, subst, sym}, lemmas.Option.{none-some, same_Some}}
 use Rattle.suite_part.specs.{Renewed.{AreRenewed, AreRowsOf}, Small.{IsSmallBook}}
 use Rattle.suite_part.proofs.{BaseMade.{base_fits}, Renewing.{base_kept, base_rows_kept, flat_rows_made, mix_rows, passes_there}}
 use Rattle.suite_part.proofs.base.Base.rows_in.Goals as goal

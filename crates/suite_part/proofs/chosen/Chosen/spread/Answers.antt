@@ -1,4 +1,4 @@
-use Rattle.std.proofs.{Common.{◌≡◌, ◌≤◌, ◌∙◌, ap, arith, length, map}, lemmas.List.{take_all}, lemmas.Simd.{map-map}}
+use Rattle.std.proofs.{Common.{◌≤◌, ◌∙◌, ap, arith, length, map}, lemmas.List.{take_all}, lemmas.Simd.{map-map}}
 use Rattle.row_book.specs.{Numbers.{numbers}, Parts.{number_in, place_in}}
 use Rattle.suite_part.proofs.chosen.Chosen.spread.Goals as goal
 

@@ -1,8 +1,9 @@
 -- The first open need.
 use Rattle.std.proofs.Common.{◌≡◌, ℕ, zero, suc, ◌+◌, ◌-◌, ◌<◌, ◌≤◌, Bool, true, false, not, cond, List, [], ◌∷◌, ◌++◌, ◌⊎◌, drop, length, get_or, take, refl, ap, sym, ◌∙◌, arith, inl, inr, Some, None, subst}
-use Rattle.std.proofs.{lemmas.Bool.{and_parts, both_ways, cases_Bool, cases_lt, false_from_ne_true, not-false}, lemmas.List.{length-drop, take-append-drop, take_all}}
+use Rattle.std.proofs.lemmas.Bool.{and_parts, both_ways, cases_Bool, cases_lt, false_from_ne_true, not-false}
+use Rattle.std.proofs.lemmas.List.{length-drop, take-append-drop, take_all}
 use Rattle.std.proofs.lemmas.List.Elements.{All-contains, All-more, Contains-append_cases, Contains-append_left, Contains-get_or}
-use Rattle.std.specs.{Prelude.{All, Contains, slice_get}, List.{find}}
+use Rattle.std.specs.{Prelude.{Contains, slice_get}, List.{find}}
 use Rattle.listed.proofs.Lists.{contains_in, all_at}
 use Rattle.search_terms.specs.{declared.literals.Literal.{Literal}, Closure.{literal, negation}, Marks.{flag_place, IsWithin}, Tree.{is_open_need}}
 use Rattle.search_terms.proofs.Sets.{Contains-head, Contains-tail}

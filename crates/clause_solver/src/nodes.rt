@@ -3,7 +3,8 @@ ghost use Rattle.std.specs.{Prelude.{◌≡◌, ◌<◌, ◌≤◌, ◌++◌, []
 ghost use Rattle.std.specs.List.{find};
 ghost use Rattle.search_terms.specs.{declared.literals.Literal.{Literal}, Tree.{is_open_need}, Marks.{true_classes}};
 ghost use Rattle.clause_solver.specs.{Marking.{set_of_trail}, Engine.{sentences_in, IsFormula, IsTable, IsUse}, Levels.{CalmAt}};
-ghost use Rattle.clause_solver.specs.{Nodes.{AreFull, HaveNegative, IsLeastOpen, IsNode, IsUndecidedAt}, Starts.{IsFirstOpen, IsNextOpen, IsStart, IsSwept, NoneBefore}};
+ghost use Rattle.clause_solver.specs.Nodes.{AreFull, HaveNegative, IsLeastOpen, IsNode, IsUndecidedAt};
+ghost use Rattle.clause_solver.specs.Starts.{IsFirstOpen, IsNextOpen, IsStart, IsSwept, NoneBefore};
 
 use crate::formula::Formula;
 use crate::reading::{is_open_need, undecided};
@@ -110,12 +111,7 @@ fn open_from(trail: &Trail, own: &[LiteralList], uses: &[Listed<Use>], from: usi
 }
 
 /// The place of the first open sentence, or the number of sentences, and where the search for the next one starts.
-fn first_open(
-    trail: &Trail,
-    own: &[LiteralList],
-    uses: &[Listed<Use>],
-    start: &mut Start,
-) -> usize
+fn first_open(trail: &Trail, own: &[LiteralList], uses: &[Listed<Use>], start: &mut Start) -> usize
     requires table { IsTable trail.now.0 uses.now own.now }
     requires negative { HaveNegative own.now }
     requires start { IsStart own.now trail.now.1 start.old }

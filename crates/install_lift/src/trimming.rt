@@ -19,24 +19,28 @@ pub(crate) fn hits_one(set: &[bool], clause: &[u32]) -> bool
     clause.iter().any(|n| is_up(set, *n))
 }
 
+/// A clause of a row that is not hit.
+#[derive(Clone, Copy, Drop)]
+pub(crate) struct Unhit {
+    /// Its place in the row.
+    place: usize,
+    /// The clause.
+    id: ClauseId,
+}
+
 /// The first clause that is not hit, with its place in the row, if those before a place are hit.
-fn first_unhit(
-    pool: &Pool,
-    set: &[bool],
-    ids: &[ClauseId],
-    from: usize,
-) -> Option<(usize, ClauseId)>
+fn first_unhit(pool: &Pool, set: &[bool], ids: &[ClauseId], from: usize) -> Option<Unhit>
     requires of_pool { OfPool pool.now ids.now }
     requires before { find (is_unhit (flag set.now)) (clauses_at pool.now (take from ids.now)) ≡ None }
     ensures none { IfNone result (find (is_unhit (flag set.now)) (clauses_at pool.now ids.now) ≡ None) }
-    ensures some { IfSome result (λ found. find (is_unhit (flag set.now)) (clauses_at pool.now ids.now) ≡ Some (clause_at pool.now found.1)) }
-    ensures within { IfSome result (λ found. found.1 < length pool.now.clauses) }
-    ensures before { IfSome result (λ found. find (is_unhit (flag set.now)) (clauses_at pool.now (take found.0 ids.now)) ≡ None) }
+    ensures some { IfSome result (λ found. find (is_unhit (flag set.now)) (clauses_at pool.now ids.now) ≡ Some (clause_at pool.now found.id)) }
+    ensures within { IfSome result (λ found. found.id < length pool.now.clauses) }
+    ensures before { IfSome result (λ found. find (is_unhit (flag set.now)) (clauses_at pool.now (take found.place ids.now)) ≡ None) }
 {
     for k in from..ids.len() {
         let id = ids[k];
         if !hits_one(set, pool.slice(id)) {
-            return Some((k, id));
+            return Some(Unhit { place: k, id });
         }
     }
     None
@@ -117,11 +121,11 @@ fn trim_clauses(
     while let Some(number) = waiting.take_first() {
         let ids = pool.row(book.row(number));
         let from = places[number as usize];
-        let Some((place, id)) = first_unhit(pool, set, ids, from) else {
+        let Some(found) = first_unhit(pool, set, ids, from) else {
             continue;
         };
-        places[number as usize] = place;
-        let n = put_first(chosen, set, pool.slice(id));
+        places[number as usize] = found.place;
+        let n = put_first(chosen, set, pool.slice(found.id));
         waiting.put(number)?;
         waiting.put(n)?;
     }

@@ -2,8 +2,7 @@ use Rattle.std.proofs.Common.{◌≡◌, ◌∙◌, ◌++◌, ◌∷◌, [], ap,
 use Rattle.std.specs.Prelude.{map}
 use Rattle.search_terms.specs.Closure.{negation}
 use Rattle.clause_solver.specs.Engine.{sentences_in}
-use Rattle.clause_solver.proofs.{Stacking.{range_front}, Walking.{walk_across, walk_up}, Calm.{fallen_of}}
-use Rattle.clause_solver.proofs.Starting.{has_start, popped, started_again}
+use Rattle.clause_solver.proofs.{Stacking.{range_front}, Walking.{walk_across, walk_up}, Calm.{fallen_of}, Starting.{has_start, popped, started_again}}
 use Rattle.clause_solver.proofs.Climbing.{under_of, has_height, ready_of, range_again}
 use Rattle.clause_solver.proofs.tree_walk.backtrack.Goals as goal
 

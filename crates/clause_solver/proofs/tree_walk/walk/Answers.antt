@@ -1,11 +1,9 @@
 use Rattle.std.proofs.{Common.{◌≡◌, ◌∙◌, ◌++◌, ◌∷◌, [], ◌<◌, ◌+◌, ◌-◌, ◌*◌, ap, arith, length, refl, true}, lemmas.List.Elements.{All-nil, All-push}}
 use Rattle.std.specs.Prelude.{map}
 use Rattle.search_terms.specs.Closure.{negation, literal}
-use Rattle.clause_solver.specs.Engine.{sentences_in}
+use Rattle.clause_solver.specs.{Engine.{sentences_in}, Starts.AreStarts.{at_root}}
 use Rattle.clause_solver.proofs.{Stacking.{fewer_left}, Walking.{walk_first, walk_found, walk_spent, walk_down, walk_past, walk_refuted}, Calm.{calm_of}}
-use Rattle.clause_solver.specs.Starts.AreStarts.{at_root}
-use Rattle.clause_solver.proofs.Starting.{start_first, start_on, started_split, starts_on}
-use Rattle.clause_solver.proofs.Climbing.{at_after, ready_split, ready_calm, split_less}
+use Rattle.clause_solver.proofs.{Starting.{start_first, start_on, started_split, starts_on}, Climbing.{at_after, ready_split, ready_calm, split_less}}
 use Rattle.clause_solver.proofs.tree_walk.walk.Goals as goal
 
 pub loop-contradiction-init : goal.loop-contradiction-init

@@ -1,4 +1,4 @@
-use Rattle.std.proofs.{Common.{◌∙◌, ◌<◌, length, arith, sym, Some, None, true}, lemmas.List.{length-replicate, length-set}}
+use Rattle.std.proofs.{Common.{◌∙◌, ◌<◌, length, arith, refl, set, sym, Some, None, true}, lemmas.List.{length-replicate, length-set}}
 use Rattle.clause_pool.specs.Interned.{clause_at}
 use Rattle.row_book.specs.{Book.{repository_of}, Flags.{flag}}
 use Rattle.listed.proofs.Lists.{In_at}
@@ -30,7 +30,7 @@ row-ids-requires c =
 pub put_first-n-requires-clause-hit : goal.put_first-n-requires-clause-hit
 put_first-n-requires-clause-hit c =
     let lt = in_book c.args.pool.now c.args.book.now (flag c.args.chosen.now) (flag c.loop-number.set) (is_waiting c.loop-number.waiting) c.in-Some.number c.requires.healthy c.loop-number.invariant.trimming.part c.loop-number.invariant.part c.in-Some.ensures.least in
-    let cl = clause_at c.args.pool.now c.in-Some-first_unhit.id in
+    let cl = clause_at c.args.pool.now c.in-Some-first_unhit.found.id in
     let first = row_first c.args.pool.now c.args.book.now (flag c.loop-number.set) c.in-Some.number c.row.result c.row-ids.result.now (Some cl) lt c.row.ensures c.row-ids.ensures.lent c.in-Some-first_unhit.ensures.some in
     rw c.slice.ensures.lent (chosen_hits (repository_of c.args.pool.now c.args.book.now) (flag c.args.chosen.now) (flag c.loop-number.set) c.in-Some.number cl c.requires.healthy c.loop-number.invariant.trimming.part
     (c.loop-number.invariant.part c.in-Some.number c.in-Some.ensures.least.waits) first)
@@ -53,7 +53,7 @@ loop-number-preserved-in_default-first_unhit c =
 pub loop-number-smaller : goal.loop-number-smaller
 loop-number-smaller c =
     let lt = in_book c.args.pool.now c.args.book.now (flag c.args.chosen.now) (flag c.loop-number.set) (is_waiting c.loop-number.waiting) c.in-Some.number c.requires.healthy c.loop-number.invariant.trimming.part c.loop-number.invariant.part c.in-Some.ensures.least in
-    let cl = clause_at c.args.pool.now c.in-Some-first_unhit.id in
+    let cl = clause_at c.args.pool.now c.in-Some-first_unhit.found.id in
     let first = row_first c.args.pool.now c.args.book.now (flag c.loop-number.set) c.in-Some.number c.row.result c.row-ids.result.now (Some cl) lt c.row.ensures c.row-ids.ensures.lent c.in-Some-first_unhit.ensures.some in
     let least = rw c.slice.ensures.lent at c.put_first-n.ensures.first in
     let below = chosen_below c.args.chosen.now c.loop-number.set cl c.put_first-n.result c.loop-number.invariant.long least in
@@ -64,7 +64,7 @@ pub loop-number-preserved : goal.loop-number-preserved
 loop-number-preserved c =
     let R = repository_of c.args.pool.now c.args.book.now in
     let lt = in_book c.args.pool.now c.args.book.now (flag c.args.chosen.now) (flag c.loop-number.set) (is_waiting c.loop-number.waiting) c.in-Some.number c.requires.healthy c.loop-number.invariant.trimming.part c.loop-number.invariant.part c.in-Some.ensures.least in
-    let cl = clause_at c.args.pool.now c.in-Some-first_unhit.id in
+    let cl = clause_at c.args.pool.now c.in-Some-first_unhit.found.id in
     let first = row_first c.args.pool.now c.args.book.now (flag c.loop-number.set) c.in-Some.number c.row.result c.row-ids.result.now (Some cl) lt c.row.ensures c.row-ids.ensures.lent c.in-Some-first_unhit.ensures.some in
     let least = rw c.slice.ensures.lent at c.put_first-n.ensures.first in
     let below = chosen_below c.args.chosen.now c.loop-number.set cl c.put_first-n.result c.loop-number.invariant.long least in
@@ -78,8 +78,9 @@ loop-number-preserved c =
       hit = goals_more c.loop-number.set c.put_first-n.new.set c.put_first-n.result c.args.goals.now below c.put_first-n.ensures.put c.loop-number.invariant.hit;
       part = within_put c.loop-number.set c.put_first-n.new.set (is_waiting c.loop-number.waiting) (is_waiting c.take_first.new.self) (is_waiting c.put.new.self) (is_waiting c.put-in-Some.new.self) c.in-Some.number c.put_first-n.result
           below c.put_first-n.ensures.put c.loop-number.invariant.part c.in-Some.ensures.least.waits c.in-Some.ensures.taken c.in_ok-put.ensures.put c.in_ok-put-2.ensures.put;
-      long_places = ?;
-      before = ?;
+      long_places = length-set c.loop-number.places c.in-Some.number c.in-Some-first_unhit.found.place ∙ c.loop-number.invariant.long_places;
+      before = hit_before_put c.args.pool.now c.args.book.now c.loop-number.set c.put_first-n.new.set c.loop-number.places (set c.loop-number.places c.in-Some.number c.in-Some-first_unhit.found.place) c.row-ids.result.now c.in-Some.number c.put_first-n.result
+          c.in-Some-first_unhit.found.place c.row.result below c.put_first-n.ensures.put (rw c.loop-number.invariant.long_places lt) refl c.row.ensures c.row-ids.ensures.lent c.in-Some-first_unhit.ensures.before c.loop-number.invariant.before;
       met = met_put R c.loop-number.set c.put_first-n.new.set (is_waiting c.loop-number.waiting) (is_waiting c.take_first.new.self) (is_waiting c.put.new.self) (is_waiting c.put-in-Some.new.self) c.in-Some.number c.put_first-n.result
           below c.put_first-n.ensures.put c.loop-number.invariant.met c.in-Some.ensures.taken c.in_ok-put.ensures.put c.in_ok-put-2.ensures.put;
     }

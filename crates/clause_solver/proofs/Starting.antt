@@ -1,7 +1,7 @@
 -- Where the search for an open need starts, from level to level.
 use Rattle.std.proofs.Common.{◌≡◌, ℕ, ◌+◌, ◌<◌, ◌≤◌, List, [], ◌∷◌, ◌++◌, length, take, ap, sym, ◌∙◌, arith, subst}
 use Rattle.std.proofs.lemmas.List.{length_push, length-take-le, take-take}
-use Rattle.search_terms.specs.{declared.literals.Literal.{Literal}}
+use Rattle.search_terms.specs.declared.literals.Literal.{Literal}
 use Rattle.clause_solver.specs.{declared.nodes.Start.{Start}, Starts.{AreStarts, IsStart, IsStarted, NoneBefore}, Starts.AreStarts.{at_root, level}}
 use Rattle.clause_solver.proofs.Stacking.{snoc_same}
 

@@ -7,6 +7,7 @@ pub mod Stacking
 pub mod Walking
 pub mod Calm
 pub mod Climbing
+pub mod Starting
 pub mod Building
 pub mod Preparing
 pub mod Local

@@ -3,6 +3,7 @@ pub mod Running
 pub mod Engine
 pub mod Levels
 pub mod Nodes
+pub mod Starts
 pub mod Solvers
 pub mod Standing
 pub mod Verdicts

@@ -5,22 +5,25 @@
 ghost use Rattle.std.specs.Prelude.{◌≡◌, ◌+◌, ◌-◌, ◌<◌, ◌≤◌, ◌^◌, ◌∷◌, ◌++◌, [], ℕ, true, false, List, All, OnOk, IfOk, IfSome, IfNone, length, map};
 ghost use Rattle.search_terms.specs.{declared.literals.Literal.{Literal}, Closure.{negation}, Tree.{Tree, IsTree}};
 ghost use Rattle.clause_solver.specs.{Engine.{sentences_in, IsFormula}, Levels.{IsFallen, IsAt, IsToAssume}, Nodes.{AreFull, ArePositive, HaveNegative}};
-ghost use Rattle.clause_solver.specs.{Standing.{WalksIn, WalksPast}, Verdicts.{Ends}};
+ghost use Rattle.clause_solver.specs.{Standing.{WalksIn, WalksPast}, Starts.{AreStarts, IsStarted}, Verdicts.{Ends}};
 
 use crate::decision::decide;
 use crate::formula::Formula;
-use crate::nodes::{Node, node_at};
+use crate::nodes::{Node, Start, node_at};
 use crate::outcomes::Verdict;
 use crate::trail::Trail;
 use listed::Listed;
 use search_terms::{EntryList, Literal, negated};
 use std::alloc::{AllocError, Global};
 
-/// The decisions that lead to a node, and for each the level below it: how long the trail was before it.
+/// The decisions that lead to a node; for each the level below it, that is how long the trail was before it, and where the search for
+/// an open need started there.
 #[derive(Drop)]
 pub(crate) struct Decisions {
     literals: Vec<Literal>,
     levels: Vec<usize>,
+    starts: Vec<Start>,
+    start: Start,
 }
 
 /// Adds the entry of a node to the log, where one is kept.
@@ -52,15 +55,20 @@ fn backtrack(
     requires range { All (λ l. l.class < formula.now.classes) decisions.old.literals.items }
     requires past { WalksPast keeps formula.now.classes (sentences_in formula.now) decisions.old.literals.items failed log.old }
     requires fallen { IsFallen (sentences_in formula.now) decisions.old.literals.items decisions.old.levels.items trail.old.1 }
+    requires starts { AreStarts formula.now.own.now decisions.old.levels.items decisions.old.starts.items trail.old.1 }
     ensures classes { OnOk result (trail.new.0 ≡ trail.old.0) }
     ensures range { OnOk result (All (λ l. l.class < formula.now.classes) decisions.new.literals.items) }
     ensures next { IfOk result (λ next. IfSome next (λ l. WalksIn keeps formula.now.classes (sentences_in formula.now) decisions.new.literals.items failed log.new)) }
     ensures ready { IfOk result (λ next. IfSome next (λ l. IsToAssume (sentences_in formula.now) decisions.new.literals.items decisions.new.levels.items trail.new.1 l)) }
     ensures class { IfOk result (λ next. IfSome next (λ l. l.class < formula.now.classes)) }
+    ensures started { IfOk result (λ next. IfSome next (λ l. IsStarted formula.now.own.now decisions.new.levels.items decisions.new.starts.items trail.new.1 decisions.new.start)) }
     ensures end { IfOk result (λ next. IfNone next (WalksPast keeps formula.now.classes (sentences_in formula.now) [] failed log.new)) }
 {
     while let Some(l) = decisions.literals.pop() {
         let Some(level) = decisions.levels.pop() else {
+            unreachable!();
+        };
+        let Some(start) = decisions.starts.pop() else {
             unreachable!();
         };
         trail.undo(level);
@@ -70,6 +78,8 @@ fn backtrack(
                 positive: false,
             };
             decisions.levels.push(level)?;
+            decisions.starts.push(start)?;
+            decisions.start = start;
             decisions.literals.push(other)?;
             return Ok(Some(other));
         }
@@ -102,6 +112,11 @@ pub(crate) fn walk(
     let mut decisions = Decisions {
         literals: Vec::new(alloc),
         levels: Vec::new(alloc),
+        starts: Vec::new(alloc),
+        start: Start {
+            height: 0,
+            place: 0,
+        },
     };
     let mut failed: u64 = 0;
     let mut contradiction = contradicted;
@@ -120,7 +135,7 @@ pub(crate) fn walk(
                 }
             }
         }
-        match node_at(trail, formula) {
+        match node_at(trail, formula, &mut decisions.start) {
             Node::Met => return Ok(Verdict::Yes),
             Node::Splits(class) => {
                 let l = Literal {
@@ -128,6 +143,7 @@ pub(crate) fn walk(
                     positive: true,
                 };
                 decisions.levels.push(trail.as_slice().len())?;
+                decisions.starts.push(decisions.start)?;
                 decisions.literals.push(l)?;
                 contradiction = decide(trail, l, formula)?;
             }

@@ -1,12 +1,12 @@
 -- What waits once a package is put to it or taken from it, and what is met outside it.
-use Rattle.std.proofs.Common.{◌≡◌, ℕ, zero, suc, ◌+◌, ◌*◌, ◌<◌, ◌≤◌, Bool, true, false, ◌||◌, eqb, List, length, set, replicate, inl, inr, refl, sym, ◌∙◌, ap, subst, arith, eq-eqb, None}
-use Rattle.std.proofs.{Math.Bool.{or-false}, lemmas.Bool.{cases_Bool, cases_eq, both_ways, or_parts}}
+use Rattle.std.proofs.Common.{◌≡◌, ℕ, zero, suc, ◌+◌, ◌*◌, ◌<◌, ◌≤◌, Bool, true, false, ◌||◌, eqb, ◌⊎◌, List, length, get_or, set, replicate, take, inl, inr, refl, sym, ◌∙◌, ap, subst, arith, eq-eqb, None}
+use Rattle.std.proofs.{Math.Bool.{or-false}, lemmas.Bool.{cases_Bool, cases_eq, both_ways, or_parts}, lemmas.List.{get_or-set_other, get_or-set_same}}
 use Rattle.std.specs.List.{find}
-use Rattle.clause_pool.specs.Interned.{Interned}
-use Rattle.row_book.specs.{Sets.{NumSet, Within, plus, without}, Book.{repository_of}, declared.book.Book.{Book}, Flags.{flag}}
+use Rattle.clause_pool.specs.Interned.{Interned, clauses_at, ids_at}
+use Rattle.row_book.specs.{Sets.{NumSet, Within, plus, without}, Book.{repository_of}, declared.book.Book.{Book}, Flags.{flag}, Uses.{row_id}}
 use Rattle.row_book.specs.Repository.{Repository, Healthy, clauses_of}
 use Rattle.row_book.proofs.Sets.{outside_less, without_parts, plus_cases, plus_new, plus_old}
-use Rattle.install_lift.specs.{Trimming.{is_unhit, AreMet, AreMetOutside}, Waiting.{IsLeast}}
+use Rattle.install_lift.specs.{Trimming.{is_unhit, AreHitBefore, AreMet, AreMetOutside}, Waiting.{IsLeast}}
 use Rattle.install_lift.proofs.Steps.{flag_plus, met_more, size_of}
 
 -- what is below the least package that waits is met
@@ -82,3 +82,27 @@ in_book pool book chosen S W p healthy part waits l =
 -- a package that is put in makes less to do, although two wait in place of one
 pub less_to_do : (c d v a b w : ℕ) → d + 1 ≡ c → a + 1 ≡ v → b ≤ a + 1 → w ≤ b + 1 → d * 2 + w < c * 2 + v
 less_to_do c d v a b w e f g h = omega arith
+
+-- at first each place is the row's start
+pub hit_before_any : (pool : Interned) (book : Book) (S : NumSet) (places : List ℕ) (n : ℕ) → places ≡ replicate n 0 → AreHitBefore pool book S places
+hit_before_any pool book S places n e p = rw (e, zero_at n p) refl
+  where
+    zero_at : (n p : ℕ) → ◌≡◌ {A = ℕ} (get_or (replicate n 0) p 0) 0
+    zero_at zero p = refl
+    zero_at (suc n) zero = refl
+    zero_at (suc n) (suc p) = zero_at n p
+
+-- a clause that is hit is hit on, and the place of one package is where it was found
+pub hit_before_put : (pool : Interned) (book : Book) (flags new : List Bool) (places now ids : List ℕ) (p n k row : ℕ) → n < length flags → new ≡ set flags n true → p < length places → now ≡ set places p k
+    → row ≡ row_id book.rows p → ids ≡ ids_at pool row → find (is_unhit (flag flags)) (clauses_at pool (take k ids)) ≡ None → AreHitBefore pool book (flag flags) places → AreHitBefore pool book (flag new) now
+hit_before_put pool book flags new places now ids p n k row lt e within g is lent here before q =
+    let grown : flag new ≡ plus (flag flags) n = ap flag e ∙ flag_plus flags n lt in
+    subst (λ S. find (is_unhit S) (clauses_at pool (take (get_or now q 0) (ids_at pool (row_id book.rows q)))) ≡ None) (sym grown) (met_more (flag flags) n (clauses_at pool (take (get_or now q 0) (ids_at pool (row_id book.rows q)))) (at_place (cases_eq q p)))
+  where
+    at_place : (q ≡ p) ⊎ (q ≡ p → ⊥) → find (is_unhit (flag flags)) (clauses_at pool (take (get_or now q 0) (ids_at pool (row_id book.rows q)))) ≡ None
+    at_place (inl s) =
+        let k_is : get_or now q 0 ≡ k = ap (λ xs. get_or xs q 0) g ∙ ap (λ m. get_or (set places p k) m 0) s ∙ get_or-set_same places p k 0 within in
+        rw (k_is, s, ← is, ← lent) here
+    at_place (inr d) =
+        let k_is : get_or now q 0 ≡ get_or places q 0 = ap (λ xs. get_or xs q 0) g ∙ get_or-set_other places p q k 0 d in
+        rw k_is (before q)

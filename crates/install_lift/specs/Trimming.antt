@@ -1,7 +1,9 @@
 -- Trimming: as few of the chosen packages as the open needs ask for, one after another.
-use Rattle.std.specs.Prelude.{◌≡◌, ◌↔◌, ℕ, zero, suc, ◌<◌, Bool, true, false, not, cond, List, [], ◌++◌, length, Option, Some, None}
+use Rattle.std.specs.Prelude.{◌≡◌, ◌↔◌, ℕ, zero, suc, ◌<◌, Bool, true, false, not, cond, List, [], ◌++◌, length, take, slice_index_or, Option, Some, None}
 use Rattle.std.specs.{List.{list_any, find, flat_map}, Option.{option_and_then}}
-use Rattle.row_book.specs.{Sets.{NumSet, Within, HitsAll, plus}, Repository.{Repository, Healthy, clauses_of}, Flattening.{packages}}
+use Rattle.clause_pool.specs.Interned.{Interned, clauses_at, ids_at}
+use Rattle.row_book.specs.{declared.book.Book.{Book}, Uses.{row_id}, Sets.{NumSet, Within, HitsAll, plus}, Repository.{Repository, Healthy, clauses_of}}
+use Rattle.row_book.specs.Flattening.{packages}
 
 -- the clauses of a package that is in the set
 abbrev pub member_clauses : Repository → NumSet → ℕ → List (List ℕ)
@@ -71,3 +73,7 @@ AreMet R S place = (p : ℕ) → p < place → S p ≡ true → find (is_unhit S
 -- the set hits each clause of each member that is not of the other set
 abbrev pub AreMetOutside : Repository → NumSet → NumSet → Type 0
 AreMetOutside R S W = (p : ℕ) → S p ≡ true → W p ≡ false → find (is_unhit S) (clauses_of R p) ≡ None
+
+-- the set hits each clause of a package before the package's place in its row
+abbrev pub AreHitBefore : Interned → Book → NumSet → List ℕ → Type 0
+AreHitBefore pool book S places = (p : ℕ) → find (is_unhit S) (clauses_at pool (take (slice_index_or places p 0) (ids_at pool (row_id book.rows p)))) ≡ None

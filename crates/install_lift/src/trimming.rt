@@ -1,5 +1,5 @@
 //! Trimming: as few of the chosen packages as the open needs ask for.
-ghost use Rattle.std.specs.Prelude.{◌≡◌, ◌<◌, ℕ, Bool, true, false, List, [], Some, None, IfOk, OnOk, IfSome, IfNone, All, replicate, length, slice_set};
+ghost use Rattle.std.specs.Prelude.{◌≡◌, ◌<◌, ℕ, Bool, true, false, List, [], Some, None, IfOk, OnOk, IfSome, IfNone, All, replicate, length, slice_set, take};
 ghost use Rattle.std.specs.List.{list_any, find};
 ghost use Rattle.clause_pool.specs.Interned.{clause_at, clauses_at, OfPool};
 ghost use Rattle.row_book.specs.{Sets.{HitsAll}, Repository.{Healthy}, Book.{repository_of, Sound}, Flags.{flag}, Needs.{NeedsFit}};
@@ -19,16 +19,28 @@ pub(crate) fn hits_one(set: &[bool], clause: &[u32]) -> bool
     clause.iter().any(|n| is_up(set, *n))
 }
 
-/// The first clause that is not hit.
-fn first_unhit(pool: &Pool, set: &[bool], ids: &[ClauseId]) -> Option<ClauseId>
-    requires { OfPool pool.now ids.now }
+/// A clause of a row that is not hit.
+#[derive(Clone, Copy, Drop)]
+pub(crate) struct Unhit {
+    /// Its place in the row.
+    place: usize,
+    /// The clause.
+    id: ClauseId,
+}
+
+/// The first clause that is not hit, with its place in the row, if those before a place are hit.
+fn first_unhit(pool: &Pool, set: &[bool], ids: &[ClauseId], from: usize) -> Option<Unhit>
+    requires of_pool { OfPool pool.now ids.now }
+    requires before { find (is_unhit (flag set.now)) (clauses_at pool.now (take from ids.now)) ≡ None }
     ensures none { IfNone result (find (is_unhit (flag set.now)) (clauses_at pool.now ids.now) ≡ None) }
-    ensures some { IfSome result (λ id. find (is_unhit (flag set.now)) (clauses_at pool.now ids.now) ≡ Some (clause_at pool.now id)) }
-    ensures within { IfSome result (λ id. id < length pool.now.clauses) }
+    ensures some { IfSome result (λ found. find (is_unhit (flag set.now)) (clauses_at pool.now ids.now) ≡ Some (clause_at pool.now found.id)) }
+    ensures within { IfSome result (λ found. found.id < length pool.now.clauses) }
+    ensures before { IfSome result (λ found. find (is_unhit (flag set.now)) (clauses_at pool.now (take found.place ids.now)) ≡ None) }
 {
-    for id in ids {
-        if !hits_one(set, pool.slice(*id)) {
-            return Some(*id);
+    for k in from..ids.len() {
+        let id = ids[k];
+        if !hits_one(set, pool.slice(id)) {
+            return Some(Unhit { place: k, id });
         }
     }
     None
@@ -87,7 +99,7 @@ fn trim_goals(
 }
 
 /// Puts in what the clauses of those that wait ask for, and of what is put in, until none waits: the least package is looked at
-/// first.
+/// first. No clause is looked at again once it is hit, since nothing is taken out: for each package its place is kept.
 fn trim_clauses(
     pool: &Pool,
     book: &Book,
@@ -95,8 +107,10 @@ fn trim_clauses(
     chosen: &[bool],
     set: &mut [bool],
     waiting: &mut Waiting,
+    places: &mut [usize],
 ) -> Result<(), AllocError>
     requires sound { Sound pool.now book.now }
+    requires places { places.old ≡ replicate (length book.now.rows) 0 }
     requires healthy { Healthy (repository_of pool.now book.now) (flag chosen.now) }
     requires long { length set.old ≡ length chosen.now }
     requires waits { (q : ℕ) → is_waiting waiting.old q ≡ flag set.old q }
@@ -105,10 +119,13 @@ fn trim_clauses(
     ensures { OnOk result (IsTrim (repository_of pool.now book.now) goals.now (flag chosen.now) (flag set.new)) }
 {
     while let Some(number) = waiting.take_first() {
-        let Some(id) = first_unhit(pool, set, pool.row(book.row(number))) else {
+        let ids = pool.row(book.row(number));
+        let from = places[number as usize];
+        let Some(found) = first_unhit(pool, set, ids, from) else {
             continue;
         };
-        let n = put_first(chosen, set, pool.slice(id));
+        places[number as usize] = found.place;
+        let n = put_first(chosen, set, pool.slice(found.id));
         waiting.put(number)?;
         waiting.put(n)?;
     }
@@ -156,7 +173,8 @@ fn trim_set(
     ensures part { OnOk result (IsHealthyPart (repository_of pool.now book.now) goals.now (flag chosen.now) (flag set.new)) }
 {
     let mut waiting = Waiting::new(alloc);
+    let mut places = vec![in alloc; 0; book.size() as usize]?;
     trim_goals(pool, book, goals, chosen, set, &mut waiting)?;
-    trim_clauses(pool, book, goals, chosen, set, &mut waiting)?;
+    trim_clauses(pool, book, goals, chosen, set, &mut waiting, &mut places)?;
     Ok(())
 }

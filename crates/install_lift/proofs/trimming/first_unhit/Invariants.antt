@@ -5,5 +5,5 @@ use Rattle.row_book.specs.Flags.{flag}
 use Rattle.install_lift.specs.Trimming.{is_unhit}
 use Rattle.install_lift.proofs.trimming.first_unhit.Given as goal
 
-abbrev pub invariant-loop-id : goal.invariant-loop-id
-invariant-loop-id l = find (is_unhit (flag l.set)) (clauses_at l.pool (take l.id-index l.ids)) ≡ None
+abbrev pub invariant-loop-k : goal.invariant-loop-k
+invariant-loop-k l = find (is_unhit (flag l.set)) (clauses_at l.pool (take l.k l.ids)) ≡ None

@@ -1,7 +1,0 @@
-use Rattle.std.proofs.Common.{take}
-use Rattle.clause_solver.specs.Marking.{set_of_trail}
-use Rattle.clause_solver.proofs.Openings.{IsSwept}
-use Rattle.clause_solver.proofs.nodes.first_open.Given as goal
-
-abbrev pub invariant-loop-l : goal.invariant-loop-l
-invariant-loop-l l = IsSwept (set_of_trail l.trail.1) l.own l.uses (take l.l-index l.l-items) l.least

@@ -8,7 +8,7 @@ use Rattle.relation_fields.specs.declared.packages.PackageFacts.{PackageFacts}
 use Rattle.repo_model.specs.Stanzas.{stanza_at, CoinstStanzas}
 use Rattle.row_book.specs.{Numbers.{numbers}, Repository.{Coinst, Repository}, Sets.{Is, NumSet}}
 use Rattle.suite_compare.specs.{declared.report.ReportLine.{ReportLine}, declared.report.ReportLine.TheVariants.{Broken1, Broken2, Open1, Open2}}
-use Rattle.claims.specs.{Asked.{HasPackageOf, IsAsked}, Classes.{classes_of, IsItsClass}, Control.{stanza_groups}, Index.{IndexSays, Says}}
+use Rattle.claims.specs.{Asked.{HasPackageOf}, Compared.{IsAsked}, Classes.{classes_of, IsItsClass}, Control.{stanza_groups}, Index.{IndexSays, Says}}
 use Rattle.claims.specs.{Laws.{a_package, empty_index, no_classes, no_home, no_lines, EmptyIndexes}, Printed.{names_of, printed_comparison}}
 use Rattle.claims.specs.Sentences.{IsFaithfulList, IsFaithfulKernel}
 use Rattle.kernel_text.proofs.StoredReading.{one_reading}

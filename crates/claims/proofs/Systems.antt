@@ -22,7 +22,7 @@ use Rattle.status_check.specs.{declared.report.OwnState.{OwnState}, declared.rep
 use Rattle.status_check.proofs.OwnTexts.{all_stanzas}
 use Rattle.repo_model.proofs.Healthy.{healthy_same}
 use Rattle.suite_compare.specs.Refusals.{home_in, packages_in}
-use Rattle.claims.specs.{Control.{IsStanza, field_value, stanza_groups}, Index.{GroupsSay, IndexSays}, Systems.{HasItsNeeds, IsOwnState, all_stanzas as all_set, is_elsewhere_group, is_foreign_group, is_installed_group, is_own_group}}
+use Rattle.claims.specs.{Control.{IsStanza, field_value, stanza_groups}, Index.{GroupsSay, IndexSays}, Goals.{all_stanzas as all_set}, Systems.{HasItsNeeds, IsOwnState, is_elsewhere_group, is_foreign_group, is_installed_group, is_own_group}}
 use Rattle.claims.proofs.{Control.{IsRead, group_is_read, groups_are_theirs}, Groups.{groups_picked, picked_by}, Index.{indexes_are_read, zip_ok}}
 use Rattle.claims.proofs.Values.{key, kept_value, value_is}
 

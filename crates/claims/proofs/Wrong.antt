@@ -22,15 +22,15 @@ use Rattle.status_check.specs.{declared.report.OwnState.{OwnState}, declared.rep
 use Rattle.suite_compare.specs.{Refusals.{home_in, packages_in}, declared.report.ReportLine.{ReportLine}}
 use Rattle.suite_compare.specs.declared.report.ReportLine.TheVariants.{Broken1, Broken2, Open1, Open2}
 use Rattle.claims.specs.Answers.{printed_entry, printed_installation, printed_no, printed_undecided}
-use Rattle.claims.specs.{Asked.{ComparedIndex, FoundInstallable, FoundUninstallable, IsAsked}, Certificates.{AreAsked, Refutes}}
-use Rattle.claims.specs.{Control.{field_value, stanza_groups}, Explained.{ToldGoal, printed_core, told_words}, Goals.{CanMeet, HasEach}}
+use Rattle.claims.specs.{Asked.{ComparedIndex}, Compared.{FoundInstallable, FoundUninstallable, IsAsked}, Certificates.{AreAsked, Refutes}}
+use Rattle.claims.specs.{Control.{field_value, stanza_groups}, Explained.{PrintedGoal, printed_core, kept_words}, Goals.{CanMeet, HasEach, all_stanzas}}
 use Rattle.claims.specs.{Index.{GroupsSay, Says}, Plans.{IsMix}, Laws.{WrongReports, a_class, a_package, kernel_printed, suite_of}}
-use Rattle.claims.specs.{Printed.{Precedes, comparison_status, names_of}, Systems.{IsOwnState, all_stanzas, system_status}}
+use Rattle.claims.specs.{Printed.{Precedes, comparison_status, names_of}, Systems.{IsOwnState, system_status}}
 use Rattle.claims.specs.Sentences.{IsFaithfulAnswer, IsFaithfulExplanation, IsFaithfulKernel, IsFaithfulList, IsFaithfulPlan, IsFaithfulStoredAnswer, IsFaithfulSystem, IsRightStep}
 use Rattle.claims.specs.Spelling.{WritesAlternatives, WritesAtom}
 use Rattle.claims.specs.Sentences.IsFaithfulAnswer.{yes as answer_yes, no as answer_no, undecided as answer_undecided}
 use Rattle.claims.specs.Sentences.IsFaithfulStoredAnswer.{yes as classes_yes, no as classes_no, undecided as classes_undecided}
-use Rattle.claims.specs.Sentences.IsFaithfulExplanation.{yes as told_yes, core as told_core, undecided as told_undecided}
+use Rattle.claims.specs.Sentences.IsFaithfulExplanation.{yes as yes_printed, core as core_printed, undecided as undecided_printed}
 use Rattle.claims.proofs.PrintedKernels.{kernel_texts_are_there}
 use Rattle.row_book.specs.Repository.{Repository}
 
@@ -134,8 +134,7 @@ derives_not formula d = let last = d.last in let no : ⊥ = cc in no
 no_entry : (index : SearchedIndex) (goals : List Text) (status : ℕ) → first_fault index.text ≡ None → ¬ (IsFaithfulAnswer (suite_of index) goals status (printed_no []))
 no_entry index goals status fine (answer_yes ends set e within order healthy each) = let h : 110 ≡ 121 = ap head_of e in omega (arith, h)
 no_entry index goals status fine (answer_no ends log e within none refutes) =
-    let shown : Refutes (kernel_printed index.limit index.hold (home_in index.text) (packages_in index.text)) goals log
-    = refutes (kernel_printed index.limit index.hold (home_in index.text) (packages_in index.text)) (kernel_texts_are_there index fine) in
+    let shown : Refutes refutes.0 goals log = refutes.2 in
     derives_not shown.0 (subst (Derives shown.0) (no_entries log e) shown.2)
 no_entry index goals status fine (answer_undecided ends e past) = let h : 110 ≡ 117 = ap head_of e in omega (arith, h)
 
@@ -175,20 +174,20 @@ goal_first true word rest = refl
 goal_first false word rest = refl
 
 no_goal : (index : ComparedIndex) (goals : List Text) (status : ℕ) → ¬ (IsFaithfulExplanation index goals status (printed_core index.stanzas [] (Some [])))
-no_goal index goals status (told_yes ends e within met) = let h : 101 ≡ 121 = ap head_of e in omega (arith, h)
-no_goal index goals status (told_core ends told clashes e within core reasons) = go told e core.impossible
+no_goal index goals status (yes_printed ends e within met) = let h : 101 ≡ 121 = ap head_of e in omega (arith, h)
+no_goal index goals status (core_printed ends kept clashes e within core conflicts) = go kept e core.impossible
   where
-    go : (told : List ToldGoal) → printed_core index.stanzas [] (Some []) ≡ printed_core index.stanzas told clashes → ¬ (CanMeet index (told_words told)) → ⊥
+    go : (kept : List PrintedGoal) → printed_core index.stanzas [] (Some []) ≡ printed_core index.stanzas kept clashes → ¬ (CanMeet index (kept_words kept)) → ⊥
     go [] e none = none (meets_none index)
-    go (t ∷ told) e none = let h : 101 ≡ 103 = ap head_of e ∙ first t told in omega (arith, h)
+    go (g ∷ kept) e none = let h : 101 ≡ 103 = ap head_of e ∙ first g kept in omega (arith, h)
       where
-        first : (t : ToldGoal) (told : List ToldGoal) → head_of (printed_core index.stanzas (t ∷ told) clashes) ≡ 103
-        first t told = by t.undecided
+        first : (g : PrintedGoal) (kept : List PrintedGoal) → head_of (printed_core index.stanzas (g ∷ kept) clashes) ≡ 103
+        first g kept = by g.undecided
           where
-            by : (b : Bool) → head_of (printed_core index.stanzas (record { word = t.word; undecided = b } ∷ told) clashes) ≡ 103
+            by : (b : Bool) → head_of (printed_core index.stanzas (record { word = g.word; undecided = b } ∷ kept) clashes) ≡ 103
             by true = refl
             by false = refl
-no_goal index goals status (told_undecided ends e past) = let h : 101 ≡ 117 = ap head_of e in omega (arith, h)
+no_goal index goals status (undecided_printed ends e past) = let h : 101 ≡ 117 = ap head_of e in omega (arith, h)
 
 -- a machine that does not stand together
 well : (index : ComparedIndex) (file printed : Text) (k : IsFaithfulSystem index file 0 printed) → HealthyStanzas k.home k.own (all_stanzas k.own)

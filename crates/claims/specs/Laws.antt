@@ -7,9 +7,9 @@ use Rattle.relation_fields.specs.declared.packages.PackageFacts.{PackageFacts}
 use Rattle.repo_model.specs.{Limits.{most_packages}, Facts.{facts_of}, Repository.{suite_repository}, FirstFault.{first_fault, home_of, stanzas_of}}
 use Rattle.repo_model.specs.Stanzas.{stanza_at, CoinstStanzas, HealthyStanzas}
 use Rattle.claims.specs.{Answers.{printed_installation, printed_no}, Control.{stanza_groups}, Explained.{printed_core}, Plans.{IsMix}}
-use Rattle.claims.specs.{Systems.{all_stanzas, is_own_group}, Index.{GroupsSay, IndexSays, SaysTheSame}, Kernel.{SettlesTo}}
+use Rattle.claims.specs.{Systems.{is_own_group}, Goals.{all_stanzas}, Index.{GroupsSay, IndexSays, SaysTheSame}, Kernel.{SettlesTo}}
 use Rattle.claims.specs.{Classes.{classes_of, IsItsClass, IsOneOf}, Settled.{IsKernelText}, Words.{compare_words, kernel_words}}
-use Rattle.claims.specs.{Asked.{ComparedIndex, FoundInstallable, FoundUninstallable, IsAsked}, Printed.{comparison_status, names_of, printed_comparison}}
+use Rattle.claims.specs.{Asked.{ComparedIndex}, Compared.{FoundInstallable, FoundUninstallable, IsAsked}, Printed.{comparison_status, names_of, printed_comparison}}
 use Rattle.claims.specs.Sentences.{IsFaithfulAnswer, IsFaithfulExplanation, IsFaithfulKernel, IsFaithfulList, IsFaithfulPlan, IsFaithfulStoredAnswer, IsFaithfulSystem}
 use Rattle.claims.specs.{Search.{Searched}, Spelling.{WritesAtom, WritesAlternatives, WritesProvide}}
 use Rattle.listed.specs.Lists.{In}
@@ -84,6 +84,10 @@ PrintedKernelsAreFaithful = (text : Text) (limit : ℕ) (hold : Bool) → first_
 -- and it is that of the kernel of the index as the sentences speak of it, so that they speak of some text
 abbrev pub KernelTextsAreThere : Type 0
 KernelTextsAreThere = (index : SearchedIndex) → first_fault index.text ≡ None → IsKernelText (suite_of index) (kernel_printed index.limit index.hold (home_in index.text) (packages_in index.text))
+
+-- and it is the only one
+abbrev pub KernelTextsAreOne : Type 0
+KernelTextsAreOne = (index : ComparedIndex) (first second : Text) → IsKernelText index first → IsKernelText index second → first ≡ second
 
 -- the words of a kernel ask for it, where they ask for anything: a path that looks like an option is refused, and so is 0
 abbrev pub KernelWordsAsk : Type 0

@@ -2,7 +2,7 @@
 //! and then under a name of its own; laws tie the two. The functions do nothing, the contract of each is one law.
 #![tactic(auto)]
 
-ghost use Rattle.claims.specs.Laws.{SpellingsAreRead, TreesAreSearches, SearchesAreOne, IndexesAreRead, IndexesAreOne, IndexesAreAccepted, KernelsAreKernels, KernelsAreOne, KernelsMeanThis, PrintedKernelsAreFaithful, KernelTextsAreThere, KernelWordsAsk, CompareWordsAsk, WordsAreTaken, ComparisonsMeanThis, EmptyIndexes, WrongReports};
+ghost use Rattle.claims.specs.Laws.{SpellingsAreRead, TreesAreSearches, SearchesAreOne, IndexesAreRead, IndexesAreOne, IndexesAreAccepted, KernelsAreKernels, KernelsAreOne, KernelsMeanThis, PrintedKernelsAreFaithful, KernelTextsAreThere, KernelTextsAreOne, KernelWordsAsk, CompareWordsAsk, WordsAreTaken, ComparisonsMeanThis, EmptyIndexes, WrongReports};
 
 /// What is read of a relation is what it is one way of writing.
 pub fn spellings_are_read()
@@ -58,6 +58,11 @@ pub fn printed_kernels_are_faithful()
 /// The text of the kernel of an index is one in the words of the sentences, so that they speak of some text.
 pub fn kernel_texts_are_there()
     ensures { KernelTextsAreThere }
+{}
+
+/// An index has one kernel text, so that they speak of the same text.
+pub fn kernel_texts_are_one()
+    ensures { KernelTextsAreOne }
 {}
 
 /// The words of a kernel ask for it, where they ask for anything.

@@ -6,21 +6,18 @@ use Rattle.kernel_text.specs.{Reading.{number_limit}, KernelLines.{line_text}, K
 use Rattle.listed.proofs.Lists.{In_none}
 use Rattle.relation_fields.specs.declared.packages.PackageFacts.{PackageFacts}
 use Rattle.repo_model.specs.Stanzas.{stanza_at, CoinstStanzas}
-use Rattle.row_book.specs.{Numbers.{numbers}, Repository.{Coinst, Repository}, Sets.{Is, NumSet}}
+use Rattle.row_book.specs.{Numbers.{numbers}, Repository.{Coinst}, Sets.{Is, NumSet}}
 use Rattle.suite_compare.specs.{declared.report.ReportLine.{ReportLine}, declared.report.ReportLine.TheVariants.{Broken1, Broken2, Open1, Open2}}
 use Rattle.claims.specs.{Asked.{HasPackageOf}, Compared.{IsAsked}, Classes.{classes_of, IsItsClass}, Control.{stanza_groups}, Index.{IndexSays, Says}}
-use Rattle.claims.specs.{Laws.{a_package, empty_index, no_classes, no_home, no_lines, EmptyIndexes}, Printed.{names_of, printed_comparison}}
+use Rattle.claims.specs.{Laws.{a_package, empty_index, no_classes, no_home, no_lines, no_repository, EmptyIndexes}, Printed.{names_of, printed_comparison}}
 use Rattle.claims.specs.Sentences.{IsFaithfulList, IsFaithfulKernel}
 use Rattle.kernel_text.proofs.StoredReading.{one_reading}
 
-nothing_said : IndexSays [] no_home []
+pub nothing_said : IndexSays [] no_home []
 unfolding stanza_groups
 nothing_said = record { each = tt; single = λ m n less l. absurd (let low : n < 0 = l in omega (arith, low)); local = λ a e. absurd (let no : ⊥ = cc in no) }
 
-abbrev no_repository : Repository
-no_repository = record { clauses = []; conflicts = [] }
-
-it_stands : KernelReads no_classes 1 no_repository [] []
+pub it_stands : KernelReads no_classes 1 no_repository [] []
 unfolding digits number_limit numbers kernel_text kernel_lines line_text
 it_stands = record {
   writable = record {
@@ -42,7 +39,7 @@ it_stands = record {
   lines = refl;
 }
 
-no_middle : {A : Type 0} (front back : List A) (x : A) → [] ≡ front ++ x ∷ back → ⊥
+pub no_middle : {A : Type 0} (front back : List A) (x : A) → [] ≡ front ++ x ∷ back → ⊥
 no_middle [] back x e = cc
 no_middle (y ∷ front) back x e = cc
 

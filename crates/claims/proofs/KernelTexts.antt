@@ -62,7 +62,7 @@ module _ (s : ComparedIndex) (text : Text) (k : IsKernelText s text) where
   image_is S inside = first_same (classes_of s.stanzas k.members S) (kernel_image s.limit s.hold R S) (both_are S inside).1
 
   -- its members are packages of the index
-  people : (m : Member) → In m k.members → IsOneOf s.stanzas m
+  pub people : (m : Member) → In m k.members → IsOneOf s.stanzas m
   people m i = people_are s.stanzas (map k.class (packages_of s.stanzas)) (each_classed k.class s.stanzas) (length k.repository.clauses) m (subst (λ ms. In m ms) k.people i)
 
   -- the classes that a goal names

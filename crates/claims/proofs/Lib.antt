@@ -26,3 +26,4 @@ pub mod Systems
 pub mod Keeping
 pub mod Cores
 pub mod Wrong
+pub mod Reports

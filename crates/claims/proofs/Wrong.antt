@@ -6,7 +6,7 @@ use Rattle.clause_pool.proofs.Order.{before_asym}
 use Rattle.coinst_words.specs.Usage.{Text}
 use Rattle.explain_core.specs.declared.explanation.Clash.{Clash}
 use Rattle.headline.specs.{Indexes.{SearchedIndex}, Listing.{is_broken}}
-use Rattle.kernel_text.specs.{KernelLines.{line_text, with_feed}, KernelReads.{KernelContent, KernelReads, content}}
+use Rattle.kernel_text.specs.{KernelLines.{line_text, with_feed}, KernelReads.{KernelContent, content}, KernelText.{format_of}}
 use Rattle.kernel_text.specs.{Reading.{number_limit, repository_of_reading}, StoredReading.{stored_reading}, declared.fault.KernelFault.{KernelFault}}
 use Rattle.kernel_text.specs.declared.member.Member.{Member}
 use Rattle.kernel_text.proofs.StoredReading.{texts_are_told}
@@ -16,7 +16,7 @@ use Rattle.listed.proofs.Lists.{In_cases, In_none}
 use Rattle.migrate_plan.specs.{declared.plan.PlanLine.{PlanLine}, declared.plan.PlanLine.TheVariants.{Take}}
 use Rattle.relation_fields.specs.{declared.packages.Home.{Home}, declared.packages.PackageFacts.{PackageFacts}, declared.relations.Atom.{Atom}}
 use Rattle.repo_model.specs.{FirstFault.{first_fault}, Stanzas.{HealthyStanzas, stanza_at}}
-use Rattle.row_book.specs.Sets.{Is, NumSet}
+use Rattle.row_book.specs.{Book.{lists_of_pairs}, Flattening.{held_of}, Numbers.{numbers}, Rounds.{Settled}, Sets.{NumSet}}
 use Rattle.search_terms.specs.{Derives.{Derives}, declared.literals.Literal.{Literal}}
 use Rattle.status_check.specs.{declared.report.OwnState.{OwnState}, declared.report.OwnState.TheVariants.{Healthy, Unhit, Clash as Clashing}}
 use Rattle.suite_compare.specs.{Refusals.{home_in, packages_in}, declared.report.ReportLine.{ReportLine}}
@@ -24,17 +24,16 @@ use Rattle.suite_compare.specs.declared.report.ReportLine.TheVariants.{Broken1, 
 use Rattle.claims.specs.Answers.{printed_entry, printed_installation, printed_no, printed_undecided}
 use Rattle.claims.specs.{Asked.{ComparedIndex}, Compared.{FoundInstallable, FoundUninstallable, IsAsked}, Certificates.{AreAsked, Refutes}}
 use Rattle.claims.specs.{Control.{field_value, stanza_groups}, Explained.{PrintedGoal, printed_core, kept_words}, Goals.{CanMeet, HasEach, all_stanzas}}
-use Rattle.claims.specs.{Index.{GroupsSay, Says}, Plans.{IsMix}, Laws.{WrongReports, a_class, a_package, kernel_printed, suite_of}}
+use Rattle.claims.specs.{Index.{GroupsSay, Says}, Plans.{IsMix}, Settled.{IsKernelText}, Laws.{WrongReports, a_class, a_package, suite_of, two_classes}}
 use Rattle.claims.specs.{Printed.{Precedes, comparison_status, names_of}, Systems.{IsOwnState, system_status}}
 use Rattle.claims.specs.Sentences.{IsFaithfulAnswer, IsFaithfulExplanation, IsFaithfulKernel, IsFaithfulList, IsFaithfulPlan, IsFaithfulStoredAnswer, IsFaithfulSystem, IsRightStep}
 use Rattle.claims.specs.Spelling.{WritesAlternatives, WritesAtom}
 use Rattle.claims.specs.Sentences.IsFaithfulAnswer.{yes as answer_yes, no as answer_no, undecided as answer_undecided}
 use Rattle.claims.specs.Sentences.IsFaithfulStoredAnswer.{yes as classes_yes, no as classes_no, undecided as classes_undecided}
 use Rattle.claims.specs.Sentences.IsFaithfulExplanation.{yes as yes_printed, core as core_printed, undecided as undecided_printed}
-use Rattle.claims.proofs.PrintedKernels.{kernel_texts_are_there}
 use Rattle.row_book.specs.Repository.{Repository}
 
-nothing : {A B : Type 0} (R : A → B → Type 0) (ys : List B) → AllZip R [] ys → ys ≡ []
+pub nothing : {A B : Type 0} (R : A → B → Type 0) (ys : List B) → AllZip R [] ys → ys ≡ []
 nothing R [] z = refl
 nothing R (y ∷ ys) z = absurd z
 
@@ -54,7 +53,7 @@ reads_a : content_of (stored_reading a_class) ≡ member_a ∷ []
 unfolding stored_reading number_limit repository_of_reading member_a line_text digits is_version epoch_of behind_epoch upstream_in revision_in
 reads_a = refl
 
-empty_groups : stanza_groups [] ≡ []
+pub empty_groups : stanza_groups [] ≡ []
 unfolding stanza_groups
 empty_groups = refl
 
@@ -67,6 +66,27 @@ stranger k =
     let low : at.0 < length k.stanzas = at.1 in
     let zero_long : length k.stanzas ≡ 0 = ap length none in
     omega (arith, low, zero_long)
+
+-- a kernel text with two classes that are alike
+abbrev two_empty : Repository
+two_empty = record { clauses = [] ∷ [] ∷ []; conflicts = [] ∷ [] ∷ [] }
+
+abbrev repository_in : Result KernelContent KernelFault → Repository
+repository_in (Ok c) = c.repository
+repository_in (Err fault) = two_empty
+
+reads_two : repository_in (stored_reading two_classes) ≡ two_empty
+unfolding stored_reading number_limit repository_of_reading line_text digits is_version epoch_of behind_epoch upstream_in revision_in numbers lists_of_pairs
+reads_two = refl
+
+two_alike : (index : ComparedIndex) → ¬ (IsKernelText index two_classes)
+two_alike index k =
+    let held : List ℕ = held_of index.limit index.hold k.repository in
+    let read : stored_reading two_classes ≡ Ok (content (format_of index.hold) k.repository k.members held) = (texts_are_told two_classes (format_of index.hold) k.repository k.members held).0 k.reads in
+    let is : k.repository ≡ two_empty = sym (ap repository_in read) ∙ reads_two in
+    let settled : Settled index.limit index.hold two_empty = subst (Settled index.limit index.hold) is k.settled in
+    let same : 1 ≡ 0 = settled.unlike 0 1 (omega arith) (omega arith) refl in
+    omega (arith, same)
 
 -- the package of an index of one
 abbrev group : List Text
@@ -157,7 +177,7 @@ broken_done : (l : ReportLine) (lines : List ReportLine) → is_broken l ≡ tru
 broken_done l lines e = ap (λ b. cond (b || list_any is_broken lines) 1 (cond (list_any (λ m. not (is_broken m)) (l ∷ lines)) 8 0)) e
 
 -- no goal that is printed
-meets_none : (index : ComparedIndex) → CanMeet index []
+pub meets_none : (index : ComparedIndex) → CanMeet index []
 meets_none index = (
   (λ n. false),
   record {
@@ -209,12 +229,13 @@ taken_sound old new name lines k =
 pub wrong_reports : WrongReports
 wrong_reports = record {
   stranger = stranger;
+  two_alike = two_alike;
   no_package = empty_is_wrong;
   no_for_a_package = no_is_wrong;
   no_entry = no_entry;
   no_entry_of_classes = stored_no_entry;
   line_twice = line_twice;
-  broken_is_told = broken_done;
+  broken_lines_end_with_1 = broken_done;
   no_goal = no_goal;
   well = λ index file printed k. (k.home, k.own, k.says, well index file printed k);
   taken = taken_sound;

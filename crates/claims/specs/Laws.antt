@@ -134,21 +134,46 @@ pub record EmptyIndexes : Type 0 where
   pub printed : printed_comparison [] ≡ no_lines
   pub wrong : ¬ (IsFaithfulKernel a_package no_classes)
 
+-- a repository without classes, a yes and nothing else, and a report on a machine without packages
+abbrev pub no_repository : Repository
+no_repository = record { clauses = []; conflicts = [] }
+
+abbrev pub only_yes : Text
+only_yes = codes "yes" ++ 10 ∷ []
+
+abbrev pub no_packages : Text
+no_packages = codes "foreign 0" ++ 10 ∷ (codes "self healthy" ++ 10 ∷ (codes "suite yes" ++ 10 ∷ (codes "end 0 0" ++ 10 ∷ [])))
+
+-- Reports on an empty index of which the other sentences are true: its kernel text, which is settled; a yes to no goals, of the index and of that
+-- text; an explanation of no goals; a report on a machine without packages; and a plan without names.
+pub record TrueReports : Type 0 where
+  pub settled : IsKernelText empty_index no_classes
+  pub answer : IsFaithfulAnswer empty_index [] 0 only_yes
+  pub answer_of_classes : IsFaithfulStoredAnswer no_classes no_repository [] [] 10000 0 only_yes
+  pub explanation : IsFaithfulExplanation empty_index [] 0 only_yes
+  pub system : IsFaithfulSystem empty_index [] 0 no_packages
+  pub plan : IsFaithfulPlan empty_index empty_index []
+
 -- a kernel of one class with one package
 abbrev pub a_class : Text
 a_class = codes "coinst-kernel 1" ++ 10 ∷ (codes "class 0" ++ 10 ∷ (codes "member a 1" ++ 10 ∷ (codes "end 1 1" ++ 10 ∷ [])))
 
--- Reports of which the sentences are not true: of an empty index a kernel with a package; a yes without a package for a goal; a no for the one package
--- of an index; a no whose log lacks its last entry; a list with a line twice, or of a broken line with status 0; an explanation with no goal; a
--- machine with status 0 that is not healthy; a plan that takes a name although it breaks something.
+-- a kernel of two classes that are alike
+abbrev pub two_classes : Text
+two_classes = codes "coinst-kernel 1" ++ 10 ∷ (codes "class 0" ++ 10 ∷ (codes "member a 1" ++ 10 ∷ (codes "class 1" ++ 10 ∷ (codes "member b 1" ++ 10 ∷ (codes "end 2 2" ++ 10 ∷ [])))))
+
+-- Reports of which the sentences are not true: of an empty index a kernel with a package; a kernel that is not settled; a yes without a package for a
+-- goal; a no for the one package of an index; a no without a log. A list with a line twice; an explanation without a goal. A broken line ends with
+-- status 1, a machine with status 0 is healthy, and a name that is taken breaks nothing.
 pub record WrongReports : Type 0 where
   pub stranger : ¬ (IsFaithfulKernel [] a_class)
+  pub two_alike : (index : ComparedIndex) → ¬ (IsKernelText index two_classes)
   pub no_package : (index : ComparedIndex) (status : ℕ) → ¬ (IsFaithfulAnswer index (codes "a" ∷ []) status (printed_installation index.stanzas []))
   pub no_for_a_package : (index : ComparedIndex) (log : List (List Literal)) (status : ℕ) → GroupsSay (stanza_groups a_package) index.home index.stanzas → ¬ (IsFaithfulAnswer index (codes "a" ∷ []) status (printed_no log))
   pub no_entry : (index : SearchedIndex) (goals : List Text) (status : ℕ) → first_fault index.text ≡ None → ¬ (IsFaithfulAnswer (suite_of index) goals status (printed_no []))
   pub no_entry_of_classes : (kernel : Text) (R : Repository) (members : List Member) (goals : List Text) (budget status : ℕ) → ¬ (IsFaithfulStoredAnswer kernel R members goals budget status (printed_no []))
   pub line_twice : (old new : ComparedIndex) (l : ReportLine) → ¬ (IsFaithfulList old new (l ∷ l ∷ []))
-  pub broken_is_told : (l : ReportLine) (lines : List ReportLine) → is_broken l ≡ true → comparison_status (l ∷ lines) ≡ 1
+  pub broken_lines_end_with_1 : (l : ReportLine) (lines : List ReportLine) → is_broken l ≡ true → comparison_status (l ∷ lines) ≡ 1
   pub no_goal : (index : ComparedIndex) (goals : List Text) (status : ℕ) → ¬ (IsFaithfulExplanation index goals status (printed_core index.stanzas [] (Some [])))
   pub well : (index : ComparedIndex) (file printed : Text) → IsFaithfulSystem index file 0 printed →
       (home : Home) × (own : List PackageFacts) × GroupsSay (filter (is_own_group index.home) (stanza_groups file)) home own × HealthyStanzas home own (all_stanzas own)

@@ -72,10 +72,10 @@ kernel_of_none = record {
   members = [];
   held = [];
   reads = it_stands;
-  once = one_reading no_classes;
-  people = λ m i. absurd (In_none i);
-  stands = λ i l. absurd (let low : i < 0 = l in omega (arith, low));
-  keeps = λ S inside. ((λ c. together_there S), (λ c. together S inside));
+  no_other_reading = one_reading no_classes;
+  members_are_packages = λ m i. absurd (In_none i);
+  each_in_one_class = λ i l. absurd (let low : i < 0 = l in omega (arith, low));
+  same_together = λ S inside. ((λ c. together_there S), (λ c. together S inside));
 }
 
 -- a stanza has no class in a text without one
@@ -85,7 +85,7 @@ unfolding stanza_groups
 not_there k [] z s = z
 not_there k (facts ∷ more) z s =
     let class = s 0 (omega arith) in
-    let none : k.repository ≡ no_repository = (k.once k.format 1 k.repository no_repository k.members [] k.held [] k.reads it_stands).1 in
+    let none : k.repository ≡ no_repository = (k.no_other_reading k.format 1 k.repository no_repository k.members [] k.held [] k.reads it_stands).1 in
     let low : class.0 < length k.repository.clauses = (class.1).0 in
     let zero : length k.repository.clauses ≡ 0 = ap (λ R. length R.clauses) none in
     omega (arith, low, zero)
@@ -113,4 +113,4 @@ unfolding digits printed_comparison
 lines_of_none = refl
 
 pub empty_indexes : EmptyIndexes
-empty_indexes = record { kernel = kernel_of_none; comparison = comparison_of_none; printed = lines_of_none; wrong = λ k. not_there k k.stanzas k.index.each k.stands }
+empty_indexes = record { kernel = kernel_of_none; comparison = comparison_of_none; printed = lines_of_none; wrong = λ k. not_there k k.stanzas k.index.each k.each_in_one_class }

@@ -52,7 +52,7 @@ module _ (s : ComparedIndex) (text : Text) (k : IsKernelText s text) where
   -- its repository is the kernel, and its classes of a set are the image
   both_are : (S : NumSet) → ((n : ℕ) → Is S n → n < length s.stanzas) → (k.repository ≡ K) × (classes_of s.stanzas k.members S ∷ [] ≡ kernel_image s.limit s.hold R S ∷ [])
   both_are S inside =
-      kernels_are_one s.limit s.hold R (S ∷ []) k.repository K (classes_of s.stanzas k.members S ∷ []) (kernel_image s.limit s.hold R S ∷ []) (k.comes S inside)
+      kernels_are_one s.limit s.hold R (S ∷ []) k.repository K (classes_of s.stanzas k.members S ∷ []) (kernel_image s.limit s.hold R S ∷ []) (k.rounds_lead_here S inside)
       (kernels_are_kernels s.limit s.hold R (S ∷ []) (suite_sound s.home s.stanzas))
 
   pub repository_is : k.repository ≡ K
@@ -63,7 +63,7 @@ module _ (s : ComparedIndex) (text : Text) (k : IsKernelText s text) where
 
   -- its members are packages of the index
   pub people : (m : Member) → In m k.members → IsOneOf s.stanzas m
-  people m i = people_are s.stanzas (map k.class (packages_of s.stanzas)) (each_classed k.class s.stanzas) (length k.repository.clauses) m (subst (λ ms. In m ms) k.people i)
+  people m i = people_are s.stanzas (map k.class (packages_of s.stanzas)) (each_classed k.class s.stanzas) (length k.repository.clauses) m (subst (λ ms. In m ms) k.members_in_order i)
 
   -- the classes that a goal names
   module _ (word : Text) (goal : Goal) (is : goal_of word ≡ Some goal) where

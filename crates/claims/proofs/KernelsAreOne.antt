@@ -49,7 +49,7 @@ module _ (s : ComparedIndex) (text : Text) (k : IsKernelText s text) where
       let p = and_parts (alone i w.0) (is_in_class k.members (stanza_at s.stanzas w.0) (of_kernel i)) w.2 in
       let inside : is_in_class k.members (stanza_at s.stanzas i) (of_kernel i) ≡ true = subst (λ j. is_in_class k.members (stanza_at s.stanzas j) (of_kernel i) ≡ true) (eqb-true w.0 i p.0) p.1 in
       let is : of_kernel i ≡ slice_index_or classes i 0 =
-      only_class s.stanzas classes (each_classed k.class s.stanzas) size single i (of_kernel i) l (subst (λ ms. is_in_class ms (stanza_at s.stanzas i) (of_kernel i) ≡ true) k.people inside) in
+      only_class s.stanzas classes (each_classed k.class s.stanzas) size single i (of_kernel i) l (subst (λ ms. is_in_class ms (stanza_at s.stanzas i) (of_kernel i) ≡ true) k.members_in_order inside) in
       sym (is ∙ get_or-map-range_with_len k.class 0 (length s.stanzas) i i 0 l (omega arith))
 
   classes_are : classes ≡ map of_kernel (packages_of s.stanzas)
@@ -60,7 +60,7 @@ module _ (s : ComparedIndex) (text : Text) (k : IsKernelText s text) where
 
   pub text_is : text ≡ text_of (kernel s.limit s.hold R) (map of_kernel (packages_of s.stanzas))
   text_is =
-      k.reads.lines ∙ ap (λ ms. kernel_text (format_of s.hold) k.repository ms (held_of s.limit s.hold k.repository)) k.people
+      k.reads.lines ∙ ap (λ ms. kernel_text (format_of s.hold) k.repository ms (held_of s.limit s.hold k.repository)) k.members_in_order
       ∙ ap (text_of k.repository) classes_are ∙ ap (λ r. text_of r (map of_kernel (packages_of s.stanzas))) (repository_is s text k)
 
 pub kernel_texts_are_one : KernelTextsAreOne

@@ -141,7 +141,7 @@ kernel_texts_are_there index fine =
       members = kernel_members stanzas (classes limit hold home stanzas f) (size limit hold home stanzas f);
       class = kernel_class limit hold (suite_repository home stanzas);
       reads = reads limit hold home stanzas f;
-      people = ap (λ (cs : List ℕ). kernel_members stanzas cs (size limit hold home stanzas f)) (classes_are limit hold home stanzas f);
-      comes = comes limit hold home stanzas f;
+      members_in_order = ap (λ (cs : List ℕ). kernel_members stanzas cs (size limit hold home stanzas f)) (classes_are limit hold home stanzas f);
+      rounds_lead_here = comes limit hold home stanzas f;
       settled = (kernel_is_lem limit hold (suite_repository home stanzas) (suite_sound home stanzas)).settled;
     }

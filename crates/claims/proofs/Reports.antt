@@ -113,9 +113,9 @@ system = record {
   groups = λ group i. absurd (In_none (subst (In group) empty_groups i));
   home = no_home;
   own = [];
-  says = nothing_own;
+  own_say = nothing_own;
   state = Standing;
-  stands = record {
+  state_is = record {
     numbers = λ n i. absurd (no_number n i);
     needs = λ n i. absurd (no_number n i);
     conflicts = λ m n i. absurd (no_number m i);
@@ -123,9 +123,9 @@ system = record {
   };
   answer = 0;
   suite = codes "yes";
-  asked = suite_yes in_time (meets_none empty_index);
-  ends = refl;
-  reads = refl;
+  answer_is = suite_yes in_time (meets_none empty_index);
+  status_is = refl;
+  bytes_are = refl;
 }
 
 plan : IsFaithfulPlan empty_index empty_index []

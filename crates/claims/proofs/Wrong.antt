@@ -61,7 +61,7 @@ stranger : ¬ (IsFaithfulKernel [] a_class)
 stranger k =
     let read : stored_reading a_class ≡ Ok (content k.format k.repository k.members k.held) = (texts_are_told a_class k.format k.repository k.members k.held).0 k.reads in
     let them : k.members ≡ member_a ∷ [] = sym (ap content_of read) ∙ reads_a in
-    let at = k.people member_a (subst (λ ms. In member_a ms) (sym them) here) in
+    let at = k.members_are_packages member_a (subst (λ ms. In member_a ms) (sym them) here) in
     let none : k.stanzas ≡ [] = nothing (Says k.home) k.stanzas (subst (λ groups. AllZip (Says k.home) groups k.stanzas) empty_groups k.index.each) in
     let low : at.0 < length k.stanzas = at.1 in
     let zero_long : length k.stanzas ≡ 0 = ap length none in
@@ -211,7 +211,7 @@ no_goal index goals status (undecided_printed ends e past) = let h : 101 ≡ 117
 
 -- a machine that does not stand together
 well : (index : ComparedIndex) (file printed : Text) (k : IsFaithfulSystem index file 0 printed) → HealthyStanzas k.home k.own (all_stanzas k.own)
-well index file printed k = by k.state k.stands k.ends
+well index file printed k = by k.state k.state_is k.status_is
   where
     by : (state : OwnState) → IsOwnState k.home k.own state → 0 ≡ system_status state k.answer → HealthyStanzas k.home k.own (all_stanzas k.own)
     by Healthy h e = h
@@ -237,6 +237,6 @@ wrong_reports = record {
   line_twice = line_twice;
   broken_lines_end_with_1 = broken_done;
   no_goal = no_goal;
-  well = λ index file printed k. (k.home, k.own, k.says, well index file printed k);
+  well = λ index file printed k. (k.home, k.own, k.own_say, well index file printed k);
   taken = taken_sound;
 }

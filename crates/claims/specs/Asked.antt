@@ -4,8 +4,8 @@ use Rattle.coinst_words.specs.Usage.{Text}
 use Rattle.relation_fields.specs.{declared.packages.Home.{Home}, declared.packages.PackageFacts.{PackageFacts}}
 use Rattle.repo_model.specs.Stanzas.{stanza_at}
 
--- an index, and how a search in it is made: the clause limit of its kernel, with hold or without (with it, a package whose elimination
--- would pass the limit stays), and the budget of failed leaves
+-- An index, and how a search in it is made: the clause limit of its kernel, with hold or without, and the budget of failed leaves. With hold a
+-- package whose elimination would pass the limit stays.
 pub record ComparedIndex : Type 0 where
   pub text : Text
   pub home : Home

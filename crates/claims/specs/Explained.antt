@@ -38,8 +38,8 @@ printed_core stanzas kept clashes =
     flat_map (λ g. with_feed ((if g.undecided then codes "goal-open " else codes "goal ") ++ g.word)) kept ++ printed_clashes stanzas clashes
     ++ with_feed (codes "end " ++ decimal (length kept) ++ codes " " ++ decimal (clashes_printed clashes))
 
--- Some items are kept, and the others left out, one after another. An item that is kept is open exactly if the search for those before it that are
--- kept and all those after it is too long; and for one that is left out that search is not.
+-- Some items are kept, and the others left out, one after another. The others of an item are those before it that are kept, and all those after it.
+-- An item that is kept is open exactly if the search for the others is too long; and if it is left out, that search is not.
 pub data AreKept {X Y : Type 0} (item : Y → X) (is_open : Y → Bool) (IsLong : List X → Type 0) : List X → List X → List Y → Type 0 where
   none : {before : List X} → AreKept item is_open IsLong before [] []
   left_out : {before after : List X} {x : X} {kept : List Y} → ¬ (IsLong (before ++ after)) → AreKept item is_open IsLong before after kept → AreKept item is_open IsLong before (x ∷ after) kept

@@ -27,7 +27,7 @@ pub record SpellingsAreRead : Type 0 where
   pub alternatives : Reads alternatives_of WritesAlternatives
   pub provides : Reads provide_of WritesProvide
 
--- a tree tells how its search ends
+-- a tree shows how its search ends
 abbrev pub TreesAreSearches : Type 0
 TreesAreSearches = (classes : ℕ) (formula : List (List Literal)) (tree : Tree) → IsTree classes formula [] tree → Searched formula [] (is_some (found_of tree)) (failed_leaves tree)
 
@@ -56,8 +56,8 @@ abbrev pub KernelsAreOne : Type 0
 KernelsAreOne = (limit : ℕ) (hold : Bool) (R : Repository) (sets : List NumSet) (K L : Repository) (images others : List NumSet) → SettlesTo limit hold R sets K images → SettlesTo limit hold R sets L others
     → (K ≡ L) × (images ≡ others)
 
--- What is kept of a printed kernel is the first sentence: a text without a fault, and bytes that read, by the grammar of lines, for classes
--- in one of which each stanza stands, and which can be together exactly where the stanzas can.
+-- What is kept of a printed kernel is the first sentence: a text without a fault, and bytes that read for classes. Each stanza stands in one of
+-- these, and they can be together exactly if the stanzas can.
 abbrev pub KernelsMeanThis : Type 0
 KernelsMeanThis = (text printed : Text) (format : ℕ) (R : Repository) (members : List Member) (held : List ℕ) → first_fault text ≡ None → KernelReads printed format R members held
     → ((m : Member) → In m members → IsOneOf (map facts_of (stanzas_of text)) m)
@@ -89,7 +89,7 @@ KernelTextsAreThere = (index : SearchedIndex) → first_fault index.text ≡ Non
 abbrev pub KernelTextsAreOne : Type 0
 KernelTextsAreOne = (index : ComparedIndex) (first second : Text) → IsKernelText index first → IsKernelText index second → first ≡ second
 
--- the words of a kernel ask for it, where they ask for anything: a path that looks like an option is refused, and so is 0
+-- the words of a kernel ask for it, if they ask for anything: a path that looks like an option is refused, and so is 0
 abbrev pub KernelWordsAsk : Type 0
 KernelWordsAsk = (limit : Option ℕ) (hold : Bool) (path : Text) (job : Job) → unwrap_or limit 65536 ≤ 1000000 → job_of (kernel_words limit hold path) ≡ Some job → job ≡ Kernel path false (unwrap_or limit 65536) hold
 
@@ -105,8 +105,7 @@ pub record WordsAreTaken : Type 0 where
   pub compare : job_of (compare_words None None false (codes "old") (codes "new")) ≡ Some (Compare (codes "old") (codes "new") 10000 65536 false)
   pub compare_with_options : job_of (compare_words (Some 500) (Some 4096) true (codes "old") (codes "new")) ≡ Some (Compare (codes "old") (codes "new") 500 4096 true)
 
--- What is kept of a comparison is the second sentence: two texts without a fault, and the text of a list that lists exactly what is broken and
--- what is open.
+-- What is kept of a comparison is its sentence: two texts without a fault, and a list of exactly what is broken and what is open.
 abbrev pub ComparisonsMeanThis : Type 0
 ComparisonsMeanThis = (old new : SearchedIndex) (lines : List ReportLine) → first_fault old.text ≡ None → first_fault new.text ≡ None → ListsExactly old new lines → IsFaithfulList (suite_of old) (suite_of new) lines
 
@@ -144,8 +143,7 @@ only_yes = codes "yes" ++ 10 ∷ []
 abbrev pub no_packages : Text
 no_packages = codes "foreign 0" ++ 10 ∷ (codes "self healthy" ++ 10 ∷ (codes "suite yes" ++ 10 ∷ (codes "end 0 0" ++ 10 ∷ [])))
 
--- Reports on an empty index of which the other sentences are true: its kernel text, which is settled; a yes to no goals, of the index and of that
--- text; an explanation of no goals; a report on a machine without packages; and a plan without names.
+-- Reports on an empty index of which the other sentences are true: its kernel text, which is settled; and a yes to no goals, also of that text. An explanation of no goals; a report on a machine without packages; and a plan without names.
 pub record TrueReports : Type 0 where
   pub settled : IsKernelText empty_index no_classes
   pub answer : IsFaithfulAnswer empty_index [] 0 only_yes
@@ -162,8 +160,8 @@ a_class = codes "coinst-kernel 1" ++ 10 ∷ (codes "class 0" ++ 10 ∷ (codes "m
 abbrev pub two_classes : Text
 two_classes = codes "coinst-kernel 1" ++ 10 ∷ (codes "class 0" ++ 10 ∷ (codes "member a 1" ++ 10 ∷ (codes "class 1" ++ 10 ∷ (codes "member b 1" ++ 10 ∷ (codes "end 2 2" ++ 10 ∷ [])))))
 
--- Reports of which the sentences are not true: of an empty index a kernel with a package; a kernel that is not settled; a yes without a package for a
--- goal; a no for the one package of an index; a no without a log. A list with a line twice; an explanation without a goal. A broken line ends with
+-- Reports of which the sentences are not true: of an empty index a kernel with a package; and a kernel that is not settled. A yes without a package for
+-- a goal; a no for the one package of an index; a no without a log. A list with a line twice; an explanation without a goal. A broken line ends with
 -- status 1, a machine with status 0 is healthy, and a name that is taken breaks nothing.
 pub record WrongReports : Type 0 where
   pub stranger : ¬ (IsFaithfulKernel [] a_class)

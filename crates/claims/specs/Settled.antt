@@ -15,8 +15,8 @@ pub record IsKernelText (s : ComparedIndex) (printed : Text) : Type 0 where
   pub members : List Member
   pub class : ℕ → ℕ
   pub reads : KernelReads printed (format_of s.hold) repository members (held_of s.limit s.hold repository)
-  pub people : members ≡ kernel_members s.stanzas (map class (packages_of s.stanzas)) (length repository.clauses)
-  pub comes : (S : NumSet) → ((n : ℕ) → Is S n → n < length s.stanzas) → SettlesTo s.limit s.hold (suite_repository s.home s.stanzas) (S ∷ []) repository (classes_of s.stanzas members S ∷ [])
+  pub members_in_order : members ≡ kernel_members s.stanzas (map class (packages_of s.stanzas)) (length repository.clauses)
+  pub rounds_lead_here : (S : NumSet) → ((n : ℕ) → Is S n → n < length s.stanzas) → SettlesTo s.limit s.hold (suite_repository s.home s.stanzas) (S ∷ []) repository (classes_of s.stanzas members S ∷ [])
   pub settled : Settled s.limit s.hold repository
 
 -- The search for the goals in the kernel of the index is too long. By the laws `KernelTextsAreThere` and `KernelTextsAreOne` an index without a fault

@@ -1,4 +1,4 @@
--- What a dpkg status file says of an installed system, and what is told of it.
+-- What a dpkg status file says of an installed system, and what is printed of it.
 use Rattle.std.specs.Prelude.{◌≡◌, ℕ, ◌<◌, ◌≤◌, ◌⊎◌, ◌-◌, Bool, true, false, not, ◌&&◌, ◌||◌, List, [], ◌∷◌, ◌++◌, codes, filter, length, unwrap_or, if◌then◌else◌}
 use Rattle.std.specs.{Fmt.{decimal}, List.{flat_map, list_any}, Option.{option_map_or}, Str.{bytes_eq}}
 use Rattle.coinst_words.specs.Usage.{Text}
@@ -37,8 +37,8 @@ goal_word_of own = own.name ++ 61 ∷ own.version
 abbrev pub HasItsNeeds : Home → List PackageFacts → ℕ → Type 0
 HasItsNeeds home own n = (element : List Atom) → In element (stanza_at own n).needs → Met home own (all_stanzas own) element
 
--- Whether the own packages stand together: they are a healthy set; or this is the first of them with a need that none of them meets; or each need is met,
--- and these are the first two of them in conflict.
+-- Whether the own packages stand together: they are a healthy set. Or this is the first of them with a need that none of them meets. Or each need is
+-- met, and these are the first two of them in conflict.
 abbrev pub IsOwnState : Home → List PackageFacts → OwnState → Type 0
 IsOwnState home own Healthy = HealthyStanzas home own (all_stanzas own)
 IsOwnState home own (Unhit n) = (n < length own) × ((m : ℕ) → m < n → HasItsNeeds home own m) × (¬ (HasItsNeeds home own n))

@@ -193,14 +193,14 @@ module _ (text : Text) (budget limit : ℕ) (hold : Bool) (fine : first_fault te
         groups = t.groups;
         home = own_home home file;
         own = own;
-        says = t.says;
+        own_say = t.says;
         state = report.own;
-        stands = state_of_all (own_home home file) own report.own k.own;
+        state_is = state_of_all (own_home home file) own report.own k.own;
         answer = suite_status report.verdict;
         suite = suite_words report.verdict;
-        asked = answer;
-        ends = ap (λ v. code_of (verdict_status v)) k.whole ∙ ends_same report.own report.verdict;
-        reads = k.reads ∙ same;
+        answer_is = answer;
+        status_is = ap (λ v. code_of (verdict_status v)) k.whole ∙ ends_same report.own report.verdict;
+        bytes_are = k.reads ∙ same;
       }
 
 pub status_is_true : (words : List Text) (readings : List OpenedFile) (verdict : ReportVerdict) (printed : Text) → IsMeant words readings verdict printed → StatusIsTrue words readings (code_of (verdict_status verdict)) printed

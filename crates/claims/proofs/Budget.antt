@@ -1,5 +1,5 @@
 -- Whether the search for goals is past the budget of an index, by its tree.
-use Rattle.std.proofs.Common.{◌≡◌, ℕ, ◌<◌, ◌≤◌, Bool, List, [], None, length, subst, arith}
+use Rattle.std.proofs.Common.{◌≡◌, ◌<◌, ◌≤◌, List, [], None, length, subst, arith}
 use Rattle.std.specs.Prelude.{is_some}
 use Rattle.coinst_words.specs.Usage.{Text}
 use Rattle.headline.specs.Indexes.{SearchedIndex}
@@ -8,7 +8,7 @@ use Rattle.row_book.specs.{Repository.{Repository}, Rounds.{kernel}}
 use Rattle.search_terms.specs.{Form.{form}, Tree.{Tree, failed_leaves, found_of}, declared.literals.Literal.{Literal}}
 use Rattle.suite_compare.specs.{Asking.{asked_tree, images_of}, Refusals.{home_in, packages_in}}
 use Rattle.suite_compare.proofs.Deciding.{asked_is}
-use Rattle.claims.specs.{Asked.{ComparedIndex}, Laws.{kernel_printed, suite_of}, Search.{Searched}, Settled.{IsKernelText, IsPastBudget}}
+use Rattle.claims.specs.{Laws.{kernel_printed, suite_of}, Search.{Searched}, Settled.{IsKernelText, IsPastBudget}}
 use Rattle.claims.proofs.{Goals.{AreGoals}, KernelTexts.{asked_is_one, asks_this}, PrintedKernels.{kernel_texts_are_there}}
 use Rattle.claims.proofs.Search.{searches_are_one, trees_are_searches}
 

@@ -1,6 +1,5 @@
 -- The second sentence, from what the code keeps of a comparison.
-use Rattle.std.proofs.Common.{◌≡◌, ℕ, ◌<◌, ◌≤◌, Bool, true, false, List, [], ◌∷◌, ◌++◌, None, length, map, refl, sym, ap, ◌∙◌, subst, inl, inr, ◌⊎◌, arith}
-use Rattle.std.proofs.lemmas.Bool.{cases_lt}
+use Rattle.std.proofs.{Common.{◌≡◌, ◌<◌, ◌≤◌, true, false, List, [], ◌∷◌, ◌++◌, None, map, sym, ap, ◌∙◌, subst, inl, inr, ◌⊎◌}, lemmas.Bool.{cases_lt}}
 use Rattle.std.specs.Prelude.{◌↔◌}
 use Rattle.deb_version.specs.Names.{is_name}
 use Rattle.listed.specs.Lists.{In, here, there}
@@ -16,7 +15,8 @@ use Rattle.suite_compare.specs.declared.report.ReportLine.TheVariants.{Broken1, 
 use Rattle.claims.specs.{Asked.{ComparedIndex, HasPackageOf}, Compared.{FoundInstallable, FoundUninstallable, IsAsked}, Goals.{CanMeet}}
 use Rattle.claims.specs.{Printed.{names_of, Precedes}, Laws.{suite_of, ComparisonsMeanThis}, Settled.{IsPastBudget}}
 use Rattle.coinst_words.specs.Usage.{Text}
-use Rattle.claims.proofs.{Budget.{in_time, past_from, past_to}, Goals.{AreGoals, goal_named}, Index.{indexes_are_read}, Meeting.{can_meet, meets_goals, says_named}}
+use Rattle.claims.proofs.{Budget.{in_time, past_from, past_to}, Goals.{AreGoals, goal_named}, Index.{indexes_are_read}}
+use Rattle.claims.proofs.Meeting.{can_meet, meets_goals, says_named}
 
 pub has_to : (index : SearchedIndex) (name : Text) → HasPackageOf (suite_of index) name → HasName index name
 has_to index name h = record { by = stanza_at (packages_in index.text) h.0; stands = In_at (packages_in index.text) h.0 no_stanza h.1; named = h.2 }

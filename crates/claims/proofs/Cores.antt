@@ -1,18 +1,18 @@
 -- The goals and conflicts that the code keeps, by the words of the sentences.
-use Rattle.std.proofs.Common.{◌≡◌, ℕ, zero, suc, ◌+◌, ◌-◌, ◌<◌, ◌≤◌, Bool, true, false, cond, List, [], ◌∷◌, ◌++◌, Option, Some, None, filter, length, map, slice_index_or, ltb-true, lt-ltb, refl, sym, ap, ap₂, subst, ◌∙◌, append_assoc, arith, inl, inr}
-use Rattle.std.proofs.lemmas.List.{append-nil, length-append}
-use Rattle.std.proofs.Math.Seq.{get_or-append_seam}
+use Rattle.std.proofs.Common.{◌≡◌, ℕ, suc, ◌+◌, ◌-◌, ◌<◌, ◌≤◌, Bool, true, false, cond, List, [], ◌∷◌, ◌++◌, Option, Some, None, length, map, slice_index_or, ltb-true, lt-ltb, refl, sym, ap, ap₂, subst, ◌∙◌, append_assoc, arith}
+use Rattle.std.proofs.{lemmas.List.{length-append}, Math.Seq.{get_or-append_seam}}
 use Rattle.std.specs.{Prelude.{◌↔◌, is_some, ltb, IfSome, option_map}, List.{AllZip, range_with_len}}
 use Rattle.clause_solver.specs.{declared.outcomes.Verdict.{Verdict}, declared.outcomes.Verdict.TheVariants.{No, Spent, Yes}}
 use Rattle.coinst_words.specs.Usage.{Text}
 use Rattle.deb_version.specs.Names.{is_name}
 use Rattle.explain_core.specs.{Core.{goal_core, goals_numbered, mark, marks_of, verdict_on}, Deletion.{Kept, kept_of}, Only.{only, pair}, Reach.{reach_of}}
-use Rattle.explain_core.specs.{Reasons.{clash, clashes_of, conflicts_reached, reasons_of, tree_over, verdict_over}, declared.explanation.Clash.{Clash}, declared.explanation.Mark.{Mark}}
+use Rattle.explain_core.specs.{Reasons.{clash, clashes_of, conflicts_reached, reasons_of, tree_over, verdict_over}, declared.explanation.Clash.{Clash}}
+use Rattle.explain_core.specs.declared.explanation.Mark.{Mark}
 use Rattle.explain_core.proofs.{Explained.{wanted_fits}, Overs.{only_sound}, Withins.{within_fit}}
 use Rattle.headline.specs.Indexes.{SearchedIndex}
 use Rattle.listed.specs.Lists.{Ascending, In, here, there}
 use Rattle.listed.proofs.{Lists.{filter_cases}, Orders.{ascending_filter}}
-use Rattle.relation_fields.specs.{declared.packages.Home.{Home}, declared.packages.PackageFacts.{PackageFacts}}
+use Rattle.relation_fields.specs.declared.packages.PackageFacts.{PackageFacts}
 use Rattle.repo_model.specs.{FirstFault.{first_fault}, Goals.{any_version, goal_of, is_named_by, packages_named}, Repository.{packages_of, suite_repository}}
 use Rattle.repo_model.specs.{Stanzas.{stanza_at}, declared.goals.Goal.{Goal}}
 use Rattle.repo_model.proofs.{Elements.{range_cases}, SoundSuite.{suite_sound}}
@@ -22,8 +22,8 @@ use Rattle.search_terms.specs.{Form.{form}, Tree.{IsTree, Tree, failed_leaves, f
 use Rattle.search_terms.proofs.Computed.{search_tree_is}
 use Rattle.suite_compare.specs.{Asking.{asked_tree, tree_of, verdict_of, wanted_by}, Refusals.{home_in, packages_in}}
 use Rattle.suite_compare.proofs.{Deciding.{named_from}, Ranged.{formula_ranged}}
-use Rattle.claims.specs.{Asked.{ComparedIndex}, Explained.{AreKept, ArePackagesFor, IsTooLongWith, PrintedGoal}, Goals.{NamesPackage}, Laws.{suite_of}}
-use Rattle.claims.specs.{Search.{Searched}, Settled.{IsPastBudget}}
+use Rattle.claims.specs.{Asked.{ComparedIndex}, Explained.{AreKept, ArePackagesFor, IsTooLongWith, PrintedGoal}, Laws.{suite_of}, Search.{Searched}}
+use Rattle.claims.specs.Settled.{IsPastBudget}
 use Rattle.claims.proofs.{Budget.{past_from, past_to}, Goals.{AreGoals, names_from, names_to, word_at}, Index.{indexes_are_read}}
 use Rattle.claims.proofs.{Keeping.{kept_all_spent, kept_so}, Kernel.{map_itself, map_map}, Meeting.{says_named}, Search.{searches_are_one, trees_are_searches}}
 

@@ -1,6 +1,6 @@
 -- The two sentences of empty indexes, and a kernel text that is not that of its index.
 use Rattle.std.proofs.Common.{◌≡◌, ℕ, ◌+◌, ◌<◌, false, List, [], ◌∷◌, ◌++◌, length, refl, ap, inl, arith, lit<}
-use Rattle.std.specs.{Prelude.{codes}, Fmt.{digits}, List.{AllZip}}
+use Rattle.std.specs.{Fmt.{digits}, List.{AllZip}}
 use Rattle.coinst_words.specs.Usage.{Text}
 use Rattle.kernel_text.specs.{Reading.{number_limit}, KernelLines.{line_text}, KernelReads.{KernelReads}, KernelText.{kernel_lines, kernel_text}}
 use Rattle.listed.proofs.Lists.{In_none}

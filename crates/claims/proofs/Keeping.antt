@@ -5,7 +5,7 @@ use Rattle.std.specs.Prelude.{◌↔◌}
 use Rattle.clause_solver.specs.{declared.outcomes.Verdict.{Verdict}, declared.outcomes.Verdict.TheVariants.{Yes, No, Spent}}
 use Rattle.explain_core.specs.Deletion.{Kept, items_of, kept, kept_behind, kept_by, kept_of}
 use Rattle.listed.specs.Lists.{In, there}
-use Rattle.listed.proofs.Lists.{In_append_cases, In_append_left, In_append_right, In_cases, In_none}
+use Rattle.listed.proofs.Lists.{In_append_cases, In_append_left, In_append_right}
 use Rattle.claims.specs.Explained.{AreKept, none, left_out, stays}
 
 -- an item that is kept is open exactly if the search with the others was spent

@@ -1,25 +1,24 @@
 -- What the text of the kernel of an index is, and which classes goals name in it.
-use Rattle.std.proofs.Common.{◌≡◌, ℕ, zero, ◌+◌, ◌<◌, ◌≤◌, Bool, true, false, ◌&&◌, eqb, eqb-true, eq-eqb, List, [], ◌∷◌, length, map, Option, Some, filter, slice_index_or, refl, sym, ap, ap₂, subst, ◌∙◌, arith, inl, inr}
+use Rattle.std.proofs.Common.{◌≡◌, ℕ, ◌+◌, ◌<◌, ◌≤◌, Bool, true, false, ◌&&◌, eqb, eqb-true, eq-eqb, List, [], ◌∷◌, length, map, Some, filter, slice_index_or, refl, sym, ap, ap₂, subst, ◌∙◌, arith}
 use Rattle.std.proofs.lemmas.{Bool.{and_from, and_parts}, List.FromFn.{length-map-range_with_len}}
-use Rattle.std.specs.{Prelude.{◌↔◌}, List.{AllZip, list_any}, Str.{bytes_eq}}
+use Rattle.std.specs.{List.{AllZip}, Str.{bytes_eq}}
 use Rattle.coinst_words.specs.Usage.{Text}
-use Rattle.deb_version.specs.Names.{is_name}
 use Rattle.kernel_text.proofs.StoredReading.{one_reading}
 use Rattle.kernel_text.specs.{KernelReads.{KernelReads}, KernelText.{format_of, members_of}, declared.member.Member.{Member}}
-use Rattle.listed.specs.Lists.{Ascending, In, has}
+use Rattle.listed.specs.Lists.{In, has}
 use Rattle.listed.proofs.Lists.{In_flat_cases, In_has, any_cases, any_from, filter_cases, filter_from, has_In, same_bytes}
 use Rattle.listed.proofs.Orders.{ascending_filter, ascending_same}
-use Rattle.relation_fields.specs.{declared.packages.Home.{Home}, declared.packages.PackageFacts.{PackageFacts}}
+use Rattle.relation_fields.specs.declared.packages.PackageFacts.{PackageFacts}
 use Rattle.repo_model.specs.{declared.goals.Goal.{Goal}, Goals.{goal_of, is_named_by, packages_named}, Repository.{packages_of, suite_repository}}
 use Rattle.repo_model.specs.Stanzas.{stanza_at}
 use Rattle.repo_model.proofs.{Elements.{range_cases, range_from}, SoundSuite.{suite_sound}}
 use Rattle.row_book.specs.{Flattening.{held_of, packages}, Numbers.{numbers}, Repository.{Repository}, Rounds.{kernel, kernel_image}, Sets.{Is, NumSet}}
 use Rattle.row_book.proofs.Numbers.{numbers_ascending, numbers_from, numbers_parts}
 use Rattle.search_terms.specs.{declared.literals.Literal.{Literal}, Form.{form}}
-use Rattle.suite_compare.specs.Asking.{goal_classes, image_of, images_of}
+use Rattle.suite_compare.specs.Asking.{image_of, images_of}
 use Rattle.suite_compare.proofs.Deciding.{named_from}
 use Rattle.claims.specs.{Asked.{ComparedIndex}, Certificates.{AreAsked, AreClassesFor}, Classes.{classes_of, is_in_class, IsOneOf}, Goals.{NamesPackage}}
-use Rattle.claims.specs.{Kernel.{SettlesTo}, Settled.{IsKernelText}}
+use Rattle.claims.specs.Settled.{IsKernelText}
 use Rattle.claims.proofs.{Goals.{AreGoals, names_from, names_to}, Kernel.{kernels_are_kernels, kernels_are_one}, Members.{people_are, text_same}}
 
 first_same : (X Y : NumSet) → X ∷ [] ≡ Y ∷ [] → (n : ℕ) → X n ≡ Y n

@@ -1,14 +1,11 @@
 -- An index has one kernel text.
-use Rattle.std.proofs.Common.{◌≡◌, ℕ, zero, suc, ◌+◌, ◌<◌, ◌≤◌, Bool, true, ◌&&◌, List, [], ◌∷◌, length, map, eqb, eq-eqb, eqb-true, slice_index_or, refl, sym, ap, subst, ◌∙◌, arith}
+use Rattle.std.proofs.Common.{◌≡◌, ℕ, ◌+◌, ◌<◌, ◌≤◌, true, ◌&&◌, List, length, map, eqb, eq-eqb, eqb-true, slice_index_or, refl, sym, ap, subst, ◌∙◌, arith}
 use Rattle.std.proofs.lemmas.{Bool.{and_parts}, List.FromFn.{get_or-map-range_with_len}}
-use Rattle.std.specs.List.{list_any}
 use Rattle.coinst_words.specs.Usage.{Text}
-use Rattle.kernel_rounds.specs.Laws.{HasImage}
 use Rattle.kernel_rounds.proofs.Reached.{image_is_of_classes_lem}
-use Rattle.kernel_text.specs.{KernelText.{format_of, kernel_text}, Members.{kernel_members}, declared.member.Member.{Member}}
+use Rattle.kernel_text.specs.{KernelText.{format_of, kernel_text}, Members.{kernel_members}}
 use Rattle.listed.specs.Lists.{In}
 use Rattle.listed.proofs.Lists.{any_cases}
-use Rattle.relation_fields.specs.declared.packages.PackageFacts.{PackageFacts}
 use Rattle.repo_model.specs.{Repository.{packages_of, suite_repository}, Stanzas.{stanza_at}}
 use Rattle.repo_model.proofs.{Accepted.{AreSingle}, Elements.{range_cases}, Packages.{length_clauses}, SoundSuite.{suite_sound}}
 use Rattle.row_book.specs.{Flattening.{held_of}, Repository.{Repository}, Rounds.{kernel, kernel_class, kernel_image}, Sets.{Is, NumSet}}

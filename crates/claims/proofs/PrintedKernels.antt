@@ -1,5 +1,5 @@
 -- The text that is printed of the kernel of an index.
-use Rattle.std.proofs.Common.{◌≡◌, ℕ, ◌<◌, Bool, true, List, [], ◌∷◌, length, map, eqb, slice_index_or, refl, sym, ap, subst, ◌∙◌, arith, zero-add}
+use Rattle.std.proofs.Common.{◌≡◌, ℕ, ◌<◌, Bool, true, List, [], ◌∷◌, length, map, slice_index_or, refl, sym, ap, subst, ◌∙◌, arith, zero-add}
 use Rattle.std.specs.Prelude.{◌↔◌}
 use Rattle.relation_fields.specs.{declared.packages.Home.{Home}, declared.packages.PackageFacts.{PackageFacts}}
 use Rattle.repo_model.specs.{Repository.{packages_of, suite_repository}, Stanzas.{CoinstStanzas, stanza_at}}
@@ -11,13 +11,12 @@ use Rattle.row_book.specs.Sets.{Is, NumSet}
 use Rattle.row_book.proofs.Numbers.{at_numbers, numbers_ranged}
 use Rattle.kernel_rounds.specs.Laws.{HasImage}
 use Rattle.kernel_rounds.proofs.{Reached.{image_is_of_classes_lem, kernel_is_lem, kernel_keeps_lem}, Classes.{class_within}}
-use Rattle.kernel_text.specs.{KernelReads.{KernelReads}, KernelText.{format_of, kernel_text}, Laws.{IsKernelOf}}
-use Rattle.kernel_text.specs.{Members.{kernel_members}, declared.member.Member.{Member}}
+use Rattle.kernel_text.specs.{KernelReads.{KernelReads}, KernelText.{format_of, kernel_text}, Laws.{IsKernelOf}, Members.{kernel_members}}
+use Rattle.kernel_text.specs.declared.member.Member.{Member}
 use Rattle.listed.{proofs.Bools.{same_bool}, specs.Lists.{In}}
 use Rattle.row_book.specs.Numbers.{numbers}
 use Rattle.kernel_text.proofs.{Classified.{kernels_are_writable}, ReadIsWritten.{read_is_written}, Extracted.{kernel_fits}}
-use Rattle.claims.specs.{Classes.{classes_of, IsItsClass, IsOneOf}, Kernel.{SettlesTo, at_rest}}
-use Rattle.claims.specs.Laws.{KernelTextsAreThere, PrintedKernelsAreFaithful, kernel_printed}
+use Rattle.claims.specs.{Classes.{classes_of, IsItsClass, IsOneOf}, Kernel.{SettlesTo}, Laws.{KernelTextsAreThere, PrintedKernelsAreFaithful, kernel_printed}}
 use Rattle.claims.proofs.{Index.{indexes_are_read}, Kernel.{kernels_are_kernels}, Members.{class_from, class_parts, people_are, stands_once}}
 use Rattle.claims.proofs.KernelSentence.{kernels_mean_this}
 use Rattle.suite_compare.specs.Refusals.{home_in, packages_in}

@@ -1,27 +1,27 @@
 -- Reports on an empty index of which the sentences are true.
-use Rattle.std.proofs.Common.{◌≡◌, ℕ, zero, suc, ◌<◌, ◌≤◌, Bool, true, false, List, [], ◌∷◌, ◌++◌, None, eqb, length, ltb-true, refl, sym, ap, ap₂, subst, ◌∙◌, arith, inl, inr}
-use Rattle.std.specs.{Prelude.{◌↔◌, codes, ltb}, Fmt.{digits}, List.{AllZip}}
+use Rattle.std.proofs.Common.{◌≡◌, ℕ, ◌<◌, true, false, List, [], ◌∷◌, None, eqb, length, ltb-true, refl, sym, ap, ap₂, subst, ◌∙◌, arith, inl, inr}
+use Rattle.std.specs.{Prelude.{codes, ltb}, Fmt.{digits}, List.{AllZip}}
 use Rattle.coinst_words.specs.Usage.{Text}
 use Rattle.headline.specs.Indexes.{SearchedIndex, searched}
-use Rattle.kernel_text.specs.{KernelReads.{KernelReads}, KernelText.{kernel_text, members_of}, declared.member.Member.{Member}}
+use Rattle.kernel_text.specs.{KernelText.{kernel_text, members_of}, declared.member.Member.{Member}}
 use Rattle.kernel_text.proofs.StoredReading.{one_reading}
 use Rattle.listed.specs.Lists.{In, has, here}
 use Rattle.listed.proofs.Lists.{In_none, filter_cases}
 use Rattle.relation_fields.specs.declared.packages.PackageFacts.{PackageFacts}
-use Rattle.repo_model.specs.{FirstFault.{first_fault}, Limits.{most_packages}, Stanzas.{HealthyStanzas}}
-use Rattle.row_book.specs.{Flattening.{held_of}, Repository.{Healthy}}
+use Rattle.repo_model.specs.{FirstFault.{first_fault}, Stanzas.{HealthyStanzas}}
+use Rattle.row_book.specs.Repository.{Healthy}
 use Rattle.search_terms.specs.{declared.literals.Literal.{Literal}, Closure.{InClosure}, Form.{form}}
 use Rattle.status_check.specs.declared.report.OwnState.TheVariants.{Healthy as Standing}
 use Rattle.suite_compare.specs.Refusals.{home_in, packages_in}
-use Rattle.claims.specs.{Asked.{ComparedIndex}, Certificates.{AreClassesFor, IsTooLong}, Control.{stanza_groups}, Index.{GroupsSay, SaysTheSame}}
+use Rattle.claims.specs.{Certificates.{AreClassesFor, IsTooLong}, Control.{stanza_groups}, Index.{GroupsSay, SaysTheSame}}
 use Rattle.claims.specs.Laws.{TrueReports, empty_index, kernel_printed, no_classes, no_home, no_packages, no_repository, suite_of}
 use Rattle.claims.specs.{Search.{Searched, SplitsOn, found}, Settled.{IsKernelText, IsPastBudget}, Sentences.{IsFaithfulPlan, IsFaithfulSystem, suite_yes}}
 use Rattle.claims.specs.Sentences.IsFaithfulAnswer.{yes as answer_yes}
 use Rattle.claims.specs.Sentences.IsFaithfulStoredAnswer.{yes as classes_yes}
 use Rattle.claims.specs.Sentences.IsFaithfulExplanation.{yes as yes_printed}
 use Rattle.claims.proofs.{Acceptance.{indexes_are_accepted}, Empty.{it_stands, no_middle, nothing_said}, Index.{indexes_are_one, indexes_are_read}}
-use Rattle.claims.proofs.{KernelTexts.{people}, KernelsAreOne.{kernel_texts_are_one}, PrintedKernels.{kernel_texts_are_there}}
-use Rattle.claims.proofs.{Search.{searches_are_one}, Wrong.{empty_groups, meets_none, nothing}}
+use Rattle.claims.proofs.{KernelTexts.{people}, KernelsAreOne.{kernel_texts_are_one}, PrintedKernels.{kernel_texts_are_there}, Search.{searches_are_one}}
+use Rattle.claims.proofs.Wrong.{empty_groups, meets_none, nothing}
 
 fine : first_fault [] ≡ None
 fine = indexes_are_accepted [] no_home [] nothing_said (omega arith)

@@ -1,31 +1,29 @@
 -- Reports of which the sentences are not true.
-use Rattle.std.proofs.Common.{◌≡◌, ◌≢◌, ℕ, zero, suc, ◌<◌, ◌≤◌, Bool, true, false, not, cond, ◌||◌, eqb, eqb-true, List, [], ◌∷◌, ◌++◌, Result, Ok, Err, Some, None, length, refl, sym, ap, subst, ◌∙◌, arith, inl, inr}
+use Rattle.std.proofs.Common.{◌≡◌, ℕ, ◌<◌, Bool, true, false, not, cond, ◌||◌, eqb, eqb-true, List, [], ◌∷◌, ◌++◌, Result, Ok, Err, Some, None, length, refl, sym, ap, subst, ◌∙◌, arith, inl, inr}
 use Rattle.std.specs.{Prelude.{codes, slice_index_or}, Fmt.{digits}, List.{AllZip, list_any}}
 use Rattle.deb_version.specs.Grammar.{behind_epoch, epoch_of, is_version, revision_in, upstream_in}
 use Rattle.clause_pool.proofs.Order.{before_asym}
 use Rattle.coinst_words.specs.Usage.{Text}
-use Rattle.explain_core.specs.declared.explanation.Clash.{Clash}
 use Rattle.headline.specs.{Indexes.{SearchedIndex}, Listing.{is_broken}}
 use Rattle.kernel_text.specs.{KernelLines.{line_text, with_feed}, KernelReads.{KernelContent, content}, KernelText.{format_of}}
 use Rattle.kernel_text.specs.{Reading.{number_limit, repository_of_reading}, StoredReading.{stored_reading}, declared.fault.KernelFault.{KernelFault}}
 use Rattle.kernel_text.specs.declared.member.Member.{Member}
 use Rattle.kernel_text.proofs.StoredReading.{texts_are_told}
-use Rattle.listed.specs.Lists.{In, has, here}
+use Rattle.listed.specs.Lists.{In, here}
 use Rattle.listed.specs.Texts as white
 use Rattle.listed.proofs.Lists.{In_cases, In_none}
 use Rattle.migrate_plan.specs.{declared.plan.PlanLine.{PlanLine}, declared.plan.PlanLine.TheVariants.{Take}}
-use Rattle.relation_fields.specs.{declared.packages.Home.{Home}, declared.packages.PackageFacts.{PackageFacts}, declared.relations.Atom.{Atom}}
+use Rattle.relation_fields.specs.{declared.packages.Home.{Home}, declared.packages.PackageFacts.{PackageFacts}}
 use Rattle.repo_model.specs.{FirstFault.{first_fault}, Stanzas.{HealthyStanzas, stanza_at}}
 use Rattle.row_book.specs.{Book.{lists_of_pairs}, Flattening.{held_of}, Numbers.{numbers}, Rounds.{Settled}, Sets.{NumSet}}
 use Rattle.search_terms.specs.{Derives.{Derives}, declared.literals.Literal.{Literal}}
 use Rattle.status_check.specs.{declared.report.OwnState.{OwnState}, declared.report.OwnState.TheVariants.{Healthy, Unhit, Clash as Clashing}}
-use Rattle.suite_compare.specs.{Refusals.{home_in, packages_in}, declared.report.ReportLine.{ReportLine}}
-use Rattle.suite_compare.specs.declared.report.ReportLine.TheVariants.{Broken1, Broken2, Open1, Open2}
-use Rattle.claims.specs.Answers.{printed_entry, printed_installation, printed_no, printed_undecided}
-use Rattle.claims.specs.{Asked.{ComparedIndex}, Compared.{FoundInstallable, FoundUninstallable, IsAsked}, Certificates.{AreAsked, Refutes}}
-use Rattle.claims.specs.{Control.{field_value, stanza_groups}, Explained.{PrintedGoal, printed_core, kept_words}, Goals.{CanMeet, HasEach, all_stanzas}}
-use Rattle.claims.specs.{Index.{GroupsSay, Says}, Plans.{IsMix}, Settled.{IsKernelText}, Laws.{WrongReports, a_class, a_package, suite_of, two_classes}}
-use Rattle.claims.specs.{Printed.{Precedes, comparison_status, names_of}, Systems.{IsOwnState, system_status}}
+use Rattle.suite_compare.specs.{declared.report.ReportLine.{ReportLine}, declared.report.ReportLine.TheVariants.{Broken1, Broken2, Open1, Open2}}
+use Rattle.claims.specs.{Answers.{printed_installation, printed_no}, Asked.{ComparedIndex}, Compared.{FoundInstallable, FoundUninstallable, IsAsked}}
+use Rattle.claims.specs.{Certificates.{Refutes}, Control.{stanza_groups}, Explained.{PrintedGoal, printed_core, kept_words}}
+use Rattle.claims.specs.{Goals.{CanMeet, HasEach, all_stanzas}, Index.{GroupsSay, Says}, Plans.{IsMix}, Settled.{IsKernelText}}
+use Rattle.claims.specs.{Laws.{WrongReports, a_class, a_package, suite_of, two_classes}, Printed.{Precedes, comparison_status, names_of}}
+use Rattle.claims.specs.Systems.{IsOwnState, system_status}
 use Rattle.claims.specs.Sentences.{IsFaithfulAnswer, IsFaithfulExplanation, IsFaithfulKernel, IsFaithfulList, IsFaithfulPlan, IsFaithfulStoredAnswer, IsFaithfulSystem, IsRightStep}
 use Rattle.claims.specs.Spelling.{WritesAlternatives, WritesAtom}
 use Rattle.claims.specs.Sentences.IsFaithfulAnswer.{yes as answer_yes, no as answer_no, undecided as answer_undecided}

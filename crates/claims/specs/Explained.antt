@@ -1,6 +1,6 @@
 -- What an explanation prints, and what its goals and conflicts are.
-use Rattle.std.specs.{Prelude.{◌≡◌, ◌↔◌, ℕ, ◌<◌, Bool, true, false, List, [], ◌∷◌, ◌++◌, codes, length, map, Option, Some, None, IfSome, if◌then◌else◌}, Fmt.{decimal}}
-use Rattle.std.specs.List.{AllZip, flat_map}
+use Rattle.std.specs.Prelude.{◌≡◌, ◌↔◌, ℕ, ◌<◌, Bool, true, false, List, [], ◌∷◌, ◌++◌, codes, length, map, Option, Some, None, IfSome, if◌then◌else◌}
+use Rattle.std.specs.{Fmt.{decimal}, List.{AllZip, flat_map}}
 use Rattle.coinst_words.specs.Usage.{Text}
 use Rattle.explain_core.specs.{declared.explanation.Clash.{Clash}, OnStanzas.{HealthyButFor}, Only.{only, pair}, Reasons.{conflicts_reached}}
 use Rattle.kernel_text.specs.KernelLines.{with_feed}

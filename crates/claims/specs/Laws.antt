@@ -6,10 +6,10 @@ use Rattle.relation_fields.specs.{Grammar.{atom_of, alternatives_of, provide_of}
 use Rattle.relation_fields.specs.declared.packages.PackageFacts.{PackageFacts}
 use Rattle.repo_model.specs.{Limits.{most_packages}, Facts.{facts_of}, Repository.{suite_repository}, FirstFault.{first_fault, home_of, stanzas_of}}
 use Rattle.repo_model.specs.Stanzas.{stanza_at, CoinstStanzas, HealthyStanzas}
-use Rattle.claims.specs.{Answers.{printed_installation, printed_no}, Control.{stanza_groups}, Explained.{printed_core}, Plans.{IsMix}}
-use Rattle.claims.specs.{Systems.{is_own_group}, Goals.{all_stanzas}, Index.{GroupsSay, IndexSays, SaysTheSame}, Kernel.{SettlesTo}}
-use Rattle.claims.specs.{Classes.{classes_of, IsItsClass, IsOneOf}, Settled.{IsKernelText}, Words.{compare_words, kernel_words}}
-use Rattle.claims.specs.{Asked.{ComparedIndex}, Compared.{FoundInstallable, FoundUninstallable, IsAsked}, Printed.{comparison_status, names_of, printed_comparison}}
+use Rattle.claims.specs.{Answers.{printed_installation, printed_no}, Control.{stanza_groups}, Explained.{printed_core}, Plans.{IsMix}, Systems.{is_own_group}}
+use Rattle.claims.specs.{Goals.{all_stanzas}, Index.{GroupsSay, IndexSays, SaysTheSame}, Kernel.{SettlesTo}, Classes.{classes_of, IsItsClass, IsOneOf}}
+use Rattle.claims.specs.{Settled.{IsKernelText}, Words.{compare_words, kernel_words}, Asked.{ComparedIndex}}
+use Rattle.claims.specs.{Compared.{FoundInstallable, FoundUninstallable, IsAsked}, Printed.{comparison_status, names_of, printed_comparison}}
 use Rattle.claims.specs.Sentences.{IsFaithfulAnswer, IsFaithfulExplanation, IsFaithfulKernel, IsFaithfulList, IsFaithfulPlan, IsFaithfulStoredAnswer, IsFaithfulSystem}
 use Rattle.claims.specs.{Search.{Searched}, Spelling.{WritesAtom, WritesAlternatives, WritesProvide}}
 use Rattle.listed.specs.Lists.{In}

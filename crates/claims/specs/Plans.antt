@@ -1,5 +1,5 @@
 -- Plans: which names differ between two indexes, and the mixes of the two.
-use Rattle.std.specs.{Prelude.{◌≡◌, ℕ, Bool, true, false, if◌then◌else◌, not, List, [], ◌∷◌, ◌++◌, ◌-◌, codes, filter, length, unwrap_or}, Fmt.{decimal}}
+use Rattle.std.specs.{Prelude.{◌≡◌, ℕ, Bool, true, false, if◌then◌else◌, not, List, [], ◌++◌, ◌-◌, codes, filter, length, unwrap_or}, Fmt.{decimal}}
 use Rattle.std.specs.{List.{AllZip, flat_map, list_any}, Str.{bytes_eq}}
 use Rattle.coinst_words.specs.Usage.{Text}
 use Rattle.headline.specs.Listing.{is_broken}

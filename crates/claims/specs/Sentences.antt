@@ -1,7 +1,7 @@
 -- The sentences for which all else is there: what each command prints means. Begin here, and look up each word where the line of its
 -- `use` says. Each is said of the words of a run, of what it read, of its exit status and of the bytes that it printed. What it read is each file by
 -- its path, with its text, in the order of reading. That a report came, and no refusal, is said by the clause `runs` of `run`, and not here.
-use Rattle.std.specs.Prelude.{◌≡◌, ℕ, ◌≤◌, ◌⊎◌, ◌↔◌, ◌≢◌, count_by, filter, map, Bool, true, false, List, [], ◌∷◌, ◌++◌, length, nat_lt, codes, Option, Some, None, unwrap_or, ◌<◌}
+use Rattle.std.specs.Prelude.{◌≡◌, ℕ, ◌≤◌, ◌⊎◌, ◌↔◌, ◌≢◌, count_by, filter, map, Bool, true, false, List, [], ◌∷◌, ◌++◌, length, nat_lt, codes, Option, None, unwrap_or, ◌<◌}
 use Rattle.std.specs.Fmt.{decimal}
 use Rattle.byte_flow.specs.History.{OpenedFile}
 use Rattle.clause_pool.specs.Lists.{InOrder}
@@ -18,11 +18,11 @@ use Rattle.row_book.specs.{Repository.{Repository, Coinst, Healthy}, Sets.{NumSe
 use Rattle.search_terms.specs.declared.literals.Literal.{Literal}
 use Rattle.status_check.specs.declared.report.OwnState.{OwnState}
 use Rattle.suite_compare.specs.declared.report.ReportLine.{ReportLine}
-use Rattle.claims.specs.Answers.{printed_classes, printed_installation, printed_no, printed_undecided}
-use Rattle.claims.specs.{Asked.{ComparedIndex, HasPackageOf, IsSearched}, Compared.{FoundInstallable, FoundUninstallable, IsAsked}}
-use Rattle.claims.specs.{Certificates.{HasClassOfEach, IsTooLong, Refutes}, Classes.{classes_of, IsItsClass, IsOneOf}, Control.{IsStanza, stanza_groups}}
-use Rattle.claims.specs.{Explained.{AreConflictsFor, IsCoreOfGoals, PrintedGoal, printed_core, kept_words}, Goals.{CanMeet, HasEach, all_stanzas}, Index.{GroupsSay, IndexSays}}
-use Rattle.claims.specs.{Kernel.{PassesOnTheWay}, Plans.{Differs, IsMix, plan_status, printed_plan}}
+use Rattle.claims.specs.{Answers.{printed_classes, printed_installation, printed_no, printed_undecided}, Asked.{ComparedIndex, HasPackageOf, IsSearched}}
+use Rattle.claims.specs.{Compared.{FoundInstallable, FoundUninstallable, IsAsked}, Certificates.{HasClassOfEach, IsTooLong, Refutes}}
+use Rattle.claims.specs.{Classes.{classes_of, IsItsClass, IsOneOf}, Control.{IsStanza, stanza_groups}}
+use Rattle.claims.specs.{Explained.{AreConflictsFor, IsCoreOfGoals, PrintedGoal, printed_core, kept_words}, Goals.{CanMeet, HasEach, all_stanzas}}
+use Rattle.claims.specs.{Index.{GroupsSay, IndexSays}, Kernel.{PassesOnTheWay}, Plans.{Differs, IsMix, plan_status, printed_plan}}
 use Rattle.claims.specs.{Printed.{comparison_status, names_of, printed_comparison, Precedes}, Settled.{IsKernelText, IsPastBudget}}
 use Rattle.claims.specs.Systems.{IsOwnState, goal_word_of, has_package, is_foreign_group, is_own_group, printed_system, system_status}
 use Rattle.claims.specs.Words.{AreOrdinary, asking_words, compare_words, kernel_words, stored_words}

@@ -1,5 +1,5 @@
 -- The sentence of `explain`, from what its report means.
-use Rattle.std.proofs.Common.{◌≡◌, ℕ, ◌+◌, ◌-◌, ◌<◌, ◌≤◌, Bool, true, false, cond, List, [], ◌∷◌, ◌++◌, Option, Some, None, length, map, slice_index_or, refl, sym, ap, ap₂, subst, ◌∙◌, arith, inl, inr}
+use Rattle.std.proofs.Common.{◌≡◌, ℕ, ◌+◌, ◌-◌, ◌<◌, ◌≤◌, Bool, true, false, cond, List, [], ◌∷◌, ◌++◌, Option, Some, None, length, map, refl, sym, ap, ap₂, subst, ◌∙◌, arith, inl, inr}
 use Rattle.std.proofs.lemmas.List.{length-map, map-append}
 use Rattle.std.specs.{Prelude.{codes, option_map, unwrap_or, IfSome}, Fmt.{decimal}, List.{flat_map}, Option.{option_map_or}}
 use Rattle.byte_flow.specs.History.{OpenedFile}
@@ -7,27 +7,27 @@ use Rattle.coinst_words.specs.{Jobs.{job_of}, Usage.{Text}, declared.job.Job.The
 use Rattle.deb_version.specs.Names.{is_name}
 use Rattle.clause_solver.specs.declared.outcomes.Verdict.{Verdict}
 use Rattle.clause_solver.specs.declared.outcomes.Verdict.TheVariants as verdict
-use Rattle.explain_core.specs.{Core.{goal_core, goal_numbered, goals_numbered, marked_goals, marks_of}, Explaining.{clashes_for, explained_by}, Meaning.{IsCoreOf}}
-use Rattle.explain_core.specs.{Only.{pair}, Reasons.{clashes_of, conflicts_reached, reasons_of}}
-use Rattle.explain_core.specs.{OnStanzas.{AreEnough, CoinstButFor, HealthyButFor, IsTellable}, Picking.{ArePlacesFrom1}, declared.explanation.Clash.{Clash}}
-use Rattle.explain_core.specs.{declared.explanation.Explanation.TheVariants.{Core}, declared.explanation.Mark.{Mark}}
+use Rattle.explain_core.specs.{Core.{goal_core, goal_numbered, marked_goals, marks_of}, Explaining.{clashes_for, explained_by}, Meaning.{IsCoreOf}, Only.{pair}}
+use Rattle.explain_core.specs.{Reasons.{clashes_of, conflicts_reached, reasons_of}, OnStanzas.{AreEnough, CoinstButFor, HealthyButFor, IsTellable}}
+use Rattle.explain_core.specs.{Picking.{ArePlacesFrom1}, declared.explanation.Clash.{Clash}, declared.explanation.Explanation.TheVariants.{Core}}
+use Rattle.explain_core.specs.declared.explanation.Mark.{Mark}
 use Rattle.explain_core.proofs.Tellable.{explanation_tellable}
 use Rattle.headline.specs.Indexes.{searched}
 use Rattle.kernel_text.specs.KernelLines.{with_feed}
 use Rattle.listed.specs.Lists.{In, here, there}
-use Rattle.listed.proofs.Lists.{In_cases, In_map_cases, In_none}
+use Rattle.listed.proofs.Lists.{In_cases}
 use Rattle.relation_fields.specs.declared.packages.PackageFacts.{PackageFacts}
-use Rattle.repo_model.specs.{FirstFault.{first_fault}, Goals.{any_version, goal_of}, Repository.{suite_repository}, Stanzas.{stanza_at}, declared.goals.Goal.{Goal}}
+use Rattle.repo_model.specs.{FirstFault.{first_fault}, Goals.{any_version, goal_of}, Repository.{suite_repository}, Stanzas.{stanza_at}}
+use Rattle.repo_model.specs.declared.goals.Goal.{Goal}
 use Rattle.suite_compare.specs.{Asking.{verdict_in, wanted_by}, Refusals.{home_in, packages_in}}
 use Rattle.claims.specs.Asked.{ComparedIndex}
 use Rattle.claims.specs.Explained.{AreConflictsFor, AreKept, AreReasonsFor, CouldMeet, IsCoreOfGoals, IsTooLongWith, PrintedGoal, clashes_printed, printed_clashes, printed_core, kept_words}
 use Rattle.claims.specs.{Goals.{CanMeet}, Laws.{suite_of}, Sentences.{ExplainIsTrue, IsFaithfulExplanation}, Settled.{IsPastBudget}}
 use Rattle.claims.specs.Sentences.IsFaithfulExplanation.{yes as yes_printed, core as core_printed, undecided as undecided_printed}
-use Rattle.claims.proofs.{AskingWords.{explain_words_ask}, Cores.{conflicts_are_kept, each_wanted, goals_are_kept, printed_goal}, Goals.{AreGoals, word_at, word_is}, Index.{indexes_are_read}}
-use Rattle.claims.proofs.Meeting.{can_meet, each_from, each_to, meets_goals}
+use Rattle.claims.proofs.{AskingWords.{explain_words_ask}, Cores.{conflicts_are_kept, each_wanted, goals_are_kept, printed_goal}}
+use Rattle.claims.proofs.{Goals.{AreGoals, word_at, word_is}, Index.{indexes_are_read}, Meeting.{can_meet, each_from, each_to, meets_goals}}
 use Rattle.coinst_run.specs.{Status.{code_of, verdict_status}, declared.answer.ReportVerdict.{ReportVerdict}}
-use Rattle.coinst_run.specs.declared.answer.ReportVerdict.TheVariants.{Done, Negative, Undecided}
-use Rattle.coinst_run.specs.ExplainMeaning.{ExplainMeans, ExplainedCore, ExplainedYes, MeansExplained}
+use Rattle.coinst_run.specs.{declared.answer.ReportVerdict.TheVariants.{Done, Negative, Undecided}, ExplainMeaning.{ExplainMeans, MeansExplained}}
 use Rattle.coinst_run.specs.{ExplainText.{core_text, clash_count, clashes_text, goal_line, yes_line}, Meaning.{IsMeant, MeansJob}}
 use Rattle.coinst_run.specs.QueryText.{goal_word, undecided_text, version_word}
 use Rattle.coinst_run.proofs.QuerySentences.{all_known, in_time, named, past}

@@ -1,15 +1,15 @@
 -- The sentence of `migrate`, from what its report means.
-use Rattle.std.proofs.Common.{◌≡◌, ◌≢◌, ℕ, ◌+◌, ◌-◌, ◌<◌, ◌≤◌, Bool, true, false, not, cond, ◌||◌, List, [], ◌∷◌, ◌++◌, Option, Some, None, filter, length, map, refl, sym, ap, ap₂, subst, ◌∙◌, arith, append_assoc, inl, inr}
+use Rattle.std.proofs.Common.{◌≡◌, ℕ, ◌+◌, ◌-◌, ◌≤◌, Bool, true, false, cond, ◌||◌, List, [], ◌∷◌, ◌++◌, None, filter, length, map, refl, sym, ap, ap₂, subst, ◌∙◌, arith, append_assoc, inl, inr}
 use Rattle.std.proofs.lemmas.List.{append-nil}
-use Rattle.std.specs.{Prelude.{codes, unwrap_or}, Fmt.{decimal}, List.{flat_map, list_any}}
+use Rattle.std.specs.{Prelude.{codes, unwrap_or}, List.{flat_map, list_any}}
 use Rattle.byte_flow.specs.History.{OpenedFile}
 use Rattle.clause_pool.specs.Lists.{InOrder}
 use Rattle.coinst_words.specs.{Jobs.{job_of}, Usage.{Text}, declared.job.Job.TheVariants.{Migrate}}
-use Rattle.headline.specs.{Indexes.{SearchedIndex, HasName, searched}, Listing.{BothHave, ListsExactly, LosesNothing, is_broken}}
+use Rattle.headline.specs.{Indexes.{searched}, Listing.{BothHave, ListsExactly, LosesNothing, is_broken}}
 use Rattle.headline.proofs.Exact.{report_lists_exactly}
 use Rattle.kernel_text.specs.KernelLines.{with_feed}
 use Rattle.listed.specs.Lists.{In, here, there}
-use Rattle.listed.proofs.Lists.{In_append_cases, In_cases, In_none, flat_same}
+use Rattle.listed.proofs.Lists.{In_cases, In_none, flat_same}
 use Rattle.migrate_plan.specs.{Differing.{differing}, Mix.{mix}, Plan.{Settings, lines_between, passed_in, settings_of, taken_in, tried_mix}}
 use Rattle.migrate_plan.specs.{Promises.{AreRight, IsRight, planned_name, searched_by}, declared.plan.PlanLine.{PlanLine}}
 use Rattle.migrate_plan.specs.declared.plan.PlanLine.TheVariants.{Take, LeftLimit, LeftLine}
@@ -18,11 +18,11 @@ use Rattle.repo_model.proofs.SoundSuite.{suite_sound}
 use Rattle.suite_compare.specs.{Asking.{verdict_in}, Refusals.{home_in, packages_in}, declared.report.ReportLine.{ReportLine}}
 use Rattle.suite_compare.proofs.Deciding.{verdict_is_judged}
 use Rattle.claims.specs.{Asked.{ComparedIndex, HasPackageOf}, Goals.{CanMeet}, Kernel.{PassesOnTheWay}, Laws.{suite_of}}
-use Rattle.claims.specs.{Plans.{Differs, IsMix, is_left_broken, is_left_name, plan_status, printed_plan, printed_step}, Printed.{printed_line}}
+use Rattle.claims.specs.Plans.{is_left_broken, is_left_name, plan_status, printed_plan, printed_step}
 use Rattle.claims.specs.Sentences.{IsFaithfulList, IsFaithfulPlan, IsRightStep, MigrateIsTrue}
 use Rattle.claims.proofs.{AskingWords.{migrate_words_ask}, CompareSentence.{comparisons_mean_this, has_to, installs_from, installs_to, two_of}}
 use Rattle.claims.proofs.{Index.{indexes_are_read}, Passing.{passes_not, passes_so}, Plans.{differing_order, differs_from, differs_to, mix_is}}
-use Rattle.coinst_run.specs.{CompareText.{comparison_line}, Lines.{end_text}, Meaning.{IsMeant, MeansJob}, MigrateMeaning.{MigrateMeans}}
+use Rattle.coinst_run.specs.{Lines.{end_text}, Meaning.{IsMeant, MeansJob}, MigrateMeaning.{MigrateMeans}}
 use Rattle.coinst_run.specs.{MigrateText.{is_left, is_take, plan_line, plan_text, plan_verdict, would_break}, Status.{code_of, verdict_status}}
 use Rattle.coinst_run.specs.{declared.answer.ReportVerdict.{ReportVerdict}, declared.answer.ReportVerdict.TheVariants.{Done, Negative, Undecided}}
 use Rattle.coinst_run.proofs.Sentences.{same_line}

@@ -1,28 +1,27 @@
 -- The sentences of `query`, of an index and of a stored kernel, and that a printed kernel is settled, from what a report means.
-use Rattle.std.proofs.Common.{◌≡◌, ℕ, ◌<◌, ◌≤◌, Bool, true, false, List, [], ◌∷◌, Some, None, length, map, refl, sym, ap, ap₂, subst, ◌∙◌, ◌+◌, arith}
+use Rattle.std.proofs.Common.{◌≡◌, ℕ, ◌<◌, ◌≤◌, Bool, true, false, List, [], None, length, refl, sym, ap, ap₂, subst, ◌∙◌, ◌+◌, arith}
 use Rattle.std.proofs.lemmas.Bool.Decides.{nat_tests}
-use Rattle.std.specs.Prelude.{codes, is_some, nat_lt, unwrap_or}
+use Rattle.std.specs.Prelude.{is_some, nat_lt, unwrap_or}
 use Rattle.byte_flow.specs.History.{OpenedFile}
 use Rattle.coinst_words.specs.{Jobs.{job_of}, Usage.{Text}, declared.job.Job.TheVariants.{Kernel, Query, StoredQuery}}
 use Rattle.deb_version.specs.Names.{is_name}
 use Rattle.headline.specs.Indexes.{SearchedIndex, searched}
 use Rattle.kernel_text.specs.{KernelReads.{KernelContent, KernelReads}, KernelText.{format_of, kernel_text}, declared.member.Member.{Member}}
 use Rattle.kernel_text.specs.Images as stored
-use Rattle.kernel_text.specs.Serving.{CoinstStored, ServesStored, images_in}
+use Rattle.kernel_text.specs.Serving.{images_in}
 use Rattle.kernel_text.proofs.StoredReading.{one_reading}
 use Rattle.listed.specs.Lists.{In, has}
 use Rattle.listed.proofs.Lists.{In_at, filter_cases}
 use Rattle.relation_fields.specs.declared.packages.PackageFacts.{PackageFacts}
 use Rattle.repo_model.specs.{FirstFault.{first_fault}, Goals.{CoinstGoals, is_named_by, packages_named}, Repository.{packages_of, suite_repository}}
 use Rattle.repo_model.specs.{Stanzas.{no_stanza, stanza_at}, declared.goals.Goal.{Goal}}
-use Rattle.repo_model.proofs.{Accepted.{Accepted}, Elements.{range_cases}}
-use Rattle.row_book.specs.{Repository.{Healthy, Repository}, Rounds.{kernel, kernel_held}, Sets.{NumSet}}
+use Rattle.repo_model.proofs.Elements.{range_cases}
+use Rattle.row_book.specs.Rounds.{kernel}
 use Rattle.search_terms.specs.{Form.{form}, Tree.{Tree, failed_leaves, found_of}, declared.literals.Literal.{Literal}}
-use Rattle.suite_compare.specs.{Asking.{asked_tree, images_of, tree_of}, Refusals.{home_in, packages_in}}
-use Rattle.suite_compare.proofs.Deciding.{asked_is, named_parts}
-use Rattle.claims.specs.{Answers.{printed_classes, printed_installation, printed_no, printed_undecided}, Asked.{ComparedIndex}}
-use Rattle.claims.specs.{Certificates.{HasClassOfEach, IsTooLong, Refutes}, Goals.{CanMeet, HasEach, all_stanzas}, Laws.{kernel_printed, suite_of}}
-use Rattle.claims.specs.{Settled.{IsKernelText, IsPastBudget}, Search.{Searched}}
+use Rattle.suite_compare.specs.{Asking.{asked_tree, tree_of}, Refusals.{home_in, packages_in}}
+use Rattle.suite_compare.proofs.Deciding.{named_parts}
+use Rattle.claims.specs.{Asked.{ComparedIndex}, Certificates.{HasClassOfEach, IsTooLong}, Goals.{CanMeet, HasEach, all_stanzas}}
+use Rattle.claims.specs.{Laws.{kernel_printed, suite_of}, Settled.{IsKernelText, IsPastBudget}, Search.{Searched}}
 use Rattle.claims.specs.Sentences.{IsFaithfulAnswer, IsFaithfulStoredAnswer, KernelIsSettled, QueryIsTrue, StoredQueryIsTrue}
 use Rattle.claims.specs.Sentences.IsFaithfulAnswer.{yes as answer_yes, no as answer_no, undecided as answer_undecided}
 use Rattle.claims.specs.Sentences.IsFaithfulStoredAnswer.{yes as classes_yes, no as classes_no, undecided as classes_undecided}
@@ -33,8 +32,8 @@ use Rattle.claims.proofs.{StoredAsking.{classes_from, classes_to, index_meets, s
 use Rattle.coinst_run.specs.{Status.{code_of, verdict_status}, declared.answer.ReportVerdict.{ReportVerdict}}
 use Rattle.coinst_run.specs.{declared.answer.ReportVerdict.TheVariants.{Done, Negative, Undecided}, KernelMeaning.{KernelMeans}}
 use Rattle.coinst_run.specs.{IndexKernel.{classed_kernel, index_kernel, members_for}, Meaning.{IsMeant, MeansJob}}
-use Rattle.coinst_run.specs.{QueryMeaning.{MeansVerdict, NoMeans, QueryMeans, UndecidedMeans, YesMeans}, QueryText.{no_text, undecided_text, yes_text}}
-use Rattle.coinst_run.specs.{StoredMeaning.{MeansStored, StoredMeans, StoredNo, StoredUndecided, StoredYes}, StoredQuery.{listed_classes}}
+use Rattle.coinst_run.specs.{QueryMeaning.{MeansVerdict, NoMeans, QueryMeans, YesMeans}, QueryText.{no_text, undecided_text, yes_text}}
+use Rattle.coinst_run.specs.StoredMeaning.{MeansStored, StoredMeans, StoredNo, StoredUndecided, StoredYes}
 use Rattle.coinst_run.proofs.{QueryMeant.{formed}, StoredMeant.{is_tree}}
 
 -- the printed kernel is the text of the kernel

@@ -15,6 +15,8 @@ WORD = re.compile(rf"(?<!\.)\b{NAME}(?:\.{NAME})*|[^\w\s(){{}}.,;]+")
 HEAD = re.compile(rf"(?:(?:pub|abbrev|unfoldable) )*(record |data )?({NAME})(?= )")
 NO_HEAD = re.compile(r"(?:pub )?(?:use|mod) |unfolding")
 FIELD = re.compile(rf"  (?:pub )?({NAME}) :")
+# A constructor where its `data` gives it its name: another `data` of the file may have one of the same name.
+OF_DATA = re.compile(rf"^{FIELD.pattern}", re.M)
 LOGIC_USE = re.compile(r"^ *(?:ghost )?(?:pub )?use Rattle\.([^;\n]*?);?$", re.M)
 TYPE_USE = re.compile(r"^use (\w+)(?:::\w+)*?::(?:\{(.*?)\}|(\w+));", re.M | re.S)
 TYPE = re.compile(r"^pub (?:struct|enum|type|trait) (\w+)\b.*?(?:;|\{\}|^\})$", re.M | re.S)
@@ -212,6 +214,8 @@ class Words:
         found, fields = set(), set()
         for place, block in enumerate(definition.blocks()):
             text = re.sub(r'"[^"]*"|--.*', " ", "\n".join(block))
+            if definition.kind == "data":
+                text = OF_DATA.sub("  ", text)
             field = FIELD.match(text) if definition.kind == "record" else None
             bound = bound_in(text) | fields
             if not definition.kind and place:

@@ -255,7 +255,7 @@ single_before (y ∷ ys) x more a t i = elim (In_cases i) [
   | inr j ↦ single_before ys x more a.1 t j
 ]
 
-single_list : (xs : List PackageFacts) → ((m n : ℕ) → m < n → n < length xs → is_same_package (stanza_at xs n) (stanza_at xs m) ≡ false) → AreSingle xs
+pub single_list : (xs : List PackageFacts) → ((m n : ℕ) → m < n → n < length xs → is_same_package (stanza_at xs n) (stanza_at xs m) ≡ false) → AreSingle xs
 single_list [] f = tt
 single_list (x ∷ xs) f = (
   (λ t i. let at = In_place xs t no_stanza i in subst (λ u. is_same_package u x ≡ false) at.2 (f 0 (suc at.0) (omega arith) (omega (arith, at.1)))),

@@ -3,12 +3,12 @@ use Rattle.std.proofs.Common.{◌≡◌, ℕ, ◌≤◌, Bool, true, false, cond
 use Rattle.std.proofs.lemmas.List.{append-nil}
 use Rattle.std.specs.{Prelude.{codes, unwrap_or, option_and_then, option_map}, Fmt.{decimal}, Str.{bytes_eq}}
 use Rattle.clap.specs.Lexer.{long_of, long_of_rest, short_of, short_of_rest, strip_byte}
-use Rattle.coinst_words.specs.Usage.{Usage, Said, Meaning, dashed_or_plain, ends, flag, long_or_other, asks, plain, nothing_said, meaning_of, value_of, give, say, read_word, read, Text}
+use Rattle.coinst_words.specs.Usage.{Usage, Said, dashed_or_plain, ends, flag, long_or_other, asks, plain, nothing_said, meaning_of, value_of, give, read_word, read, Text}
 use Rattle.coinst_words.specs.Words.{is_path, clause_limit_of, budget_of, two_paths, index_and_goals, some_goals_of, goals_of}
-use Rattle.coinst_words.specs.Jobs.{Options, query_usage, explain_usage, status_usage, migrate_usage, options_by, settings_by, query_by, job_of, job_of_said, explain_job, status_job, migrate_job, index_query, stored_query}
+use Rattle.coinst_words.specs.Jobs.{Options, query_usage, explain_usage, status_usage, migrate_usage, settings_by, query_by, job_of, job_of_said}
 use Rattle.coinst_words.specs.{declared.job.Job.{Job}, declared.job.Settings.{Settings}}
 use Rattle.coinst_words.specs.declared.job.Job.TheVariants.{Query, StoredQuery, Explain, Status, Migrate}
-use Rattle.listed.specs.Lists.{In, here, there}
+use Rattle.listed.specs.Lists.{here, there}
 use Rattle.repo_model.specs.declared.goals.Goal.{Goal}
 use Rattle.claims.specs.Words.{AreOrdinary, asking_words, is_dashed, number_words, stored_words}
 use Rattle.claims.proofs.{Goals.{AreGoals, goals_read}, Words.{Asked, asked, kept, number_told, options_in, said_with, short_words, two_said, word_waits}}

@@ -1,26 +1,23 @@
 -- The two sentences of empty indexes, and a kernel text that is not that of its index.
 use Rattle.std.proofs.Common.{◌≡◌, ℕ, ◌+◌, ◌<◌, false, List, [], ◌∷◌, ◌++◌, length, refl, ap, inl, arith, lit<}
-use Rattle.std.specs.{Prelude.{codes}, Fmt.{digits}, List.{AllZip}}
+use Rattle.std.specs.{Fmt.{digits}, List.{AllZip}}
 use Rattle.coinst_words.specs.Usage.{Text}
 use Rattle.kernel_text.specs.{Reading.{number_limit}, KernelLines.{line_text}, KernelReads.{KernelReads}, KernelText.{kernel_lines, kernel_text}}
 use Rattle.listed.proofs.Lists.{In_none}
 use Rattle.relation_fields.specs.declared.packages.PackageFacts.{PackageFacts}
 use Rattle.repo_model.specs.Stanzas.{stanza_at, CoinstStanzas}
-use Rattle.row_book.specs.{Numbers.{numbers}, Repository.{Coinst, Repository}, Sets.{Is, NumSet}}
+use Rattle.row_book.specs.{Numbers.{numbers}, Repository.{Coinst}, Sets.{Is, NumSet}}
 use Rattle.suite_compare.specs.{declared.report.ReportLine.{ReportLine}, declared.report.ReportLine.TheVariants.{Broken1, Broken2, Open1, Open2}}
-use Rattle.claims.specs.{Asked.{HasPackageOf, IsAsked}, Classes.{classes_of, IsItsClass}, Control.{stanza_groups}, Index.{IndexSays, Says}}
-use Rattle.claims.specs.{Laws.{a_package, empty_index, no_classes, no_home, no_lines, EmptyIndexes}, Printed.{names_of, printed_comparison}}
+use Rattle.claims.specs.{Asked.{HasPackageOf}, Compared.{IsAsked}, Classes.{classes_of, IsItsClass}, Control.{stanza_groups}, Index.{IndexSays, Says}}
+use Rattle.claims.specs.{Laws.{a_package, empty_index, no_classes, no_home, no_lines, no_repository, EmptyIndexes}, Printed.{names_of, printed_comparison}}
 use Rattle.claims.specs.Sentences.{IsFaithfulList, IsFaithfulKernel}
 use Rattle.kernel_text.proofs.StoredReading.{one_reading}
 
-nothing_said : IndexSays [] no_home []
+pub nothing_said : IndexSays [] no_home []
 unfolding stanza_groups
 nothing_said = record { each = tt; single = λ m n less l. absurd (let low : n < 0 = l in omega (arith, low)); local = λ a e. absurd (let no : ⊥ = cc in no) }
 
-abbrev no_repository : Repository
-no_repository = record { clauses = []; conflicts = [] }
-
-it_stands : KernelReads no_classes 1 no_repository [] []
+pub it_stands : KernelReads no_classes 1 no_repository [] []
 unfolding digits number_limit numbers kernel_text kernel_lines line_text
 it_stands = record {
   writable = record {
@@ -42,7 +39,7 @@ it_stands = record {
   lines = refl;
 }
 
-no_middle : {A : Type 0} (front back : List A) (x : A) → [] ≡ front ++ x ∷ back → ⊥
+pub no_middle : {A : Type 0} (front back : List A) (x : A) → [] ≡ front ++ x ∷ back → ⊥
 no_middle [] back x e = cc
 no_middle (y ∷ front) back x e = cc
 
@@ -75,10 +72,10 @@ kernel_of_none = record {
   members = [];
   held = [];
   reads = it_stands;
-  once = one_reading no_classes;
-  people = λ m i. absurd (In_none i);
-  stands = λ i l. absurd (let low : i < 0 = l in omega (arith, low));
-  keeps = λ S inside. ((λ c. together_there S), (λ c. together S inside));
+  no_other_reading = one_reading no_classes;
+  members_are_packages = λ m i. absurd (In_none i);
+  each_in_one_class = λ i l. absurd (let low : i < 0 = l in omega (arith, low));
+  same_together = λ S inside. ((λ c. together_there S), (λ c. together S inside));
 }
 
 -- a stanza has no class in a text without one
@@ -88,7 +85,7 @@ unfolding stanza_groups
 not_there k [] z s = z
 not_there k (facts ∷ more) z s =
     let class = s 0 (omega arith) in
-    let none : k.repository ≡ no_repository = (k.once k.format 1 k.repository no_repository k.members [] k.held [] k.reads it_stands).1 in
+    let none : k.repository ≡ no_repository = (k.no_other_reading k.format 1 k.repository no_repository k.members [] k.held [] k.reads it_stands).1 in
     let low : class.0 < length k.repository.clauses = (class.1).0 in
     let zero : length k.repository.clauses ≡ 0 = ap (λ R. length R.clauses) none in
     omega (arith, low, zero)
@@ -116,4 +113,4 @@ unfolding digits printed_comparison
 lines_of_none = refl
 
 pub empty_indexes : EmptyIndexes
-empty_indexes = record { kernel = kernel_of_none; comparison = comparison_of_none; printed = lines_of_none; wrong = λ k. not_there k k.stanzas k.index.each k.stands }
+empty_indexes = record { kernel = kernel_of_none; comparison = comparison_of_none; printed = lines_of_none; wrong = λ k. not_there k k.stanzas k.index.each k.each_in_one_class }

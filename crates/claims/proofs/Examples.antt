@@ -1,5 +1,5 @@
 -- The short definitions, computed at small values.
-use Rattle.std.proofs.Common.{◌≡◌, ℕ, true, false, List, [], ◌∷◌, ◌++◌, Some, None, not, ◌&&◌, ◌||◌, inl, inr, refl}
+use Rattle.std.proofs.Common.{◌≡◌, ℕ, true, false, List, [], ◌∷◌, ◌++◌, Some, None, not, ◌&&◌, ◌||◌, inl, refl}
 use Rattle.std.specs.{Prelude.{codes, ◌==◌}, Fmt.{digits}, declared.cmp.Ordering.TheVariants.{Less, Equal, Greater}}
 use Rattle.deb_version.specs.Grammar.{behind_epoch, epoch_of, is_version, revision_in, upstream_in}
 use Rattle.listed.specs.Texts as white

@@ -1,7 +1,7 @@
 -- A goal that is read of a word names what the word names.
-use Rattle.std.proofs.Common.{◌≡◌, ℕ, zero, suc, ◌<◌, Bool, true, false, cond, ◌&&◌, ◌||◌, eqb, eqb-true, length, slice_index_or, arith, List, [], ◌∷◌, ◌++◌, Option, Some, None, refl, sym, ap, ap₂, subst, ◌∙◌, inl, inr, ◌⊎◌}
+use Rattle.std.proofs.Common.{◌≡◌, ℕ, zero, suc, ◌<◌, Bool, true, false, cond, ◌&&◌, ◌||◌, eqb-true, length, slice_index_or, arith, List, [], ◌∷◌, ◌++◌, Option, Some, None, refl, sym, ap, ap₂, subst, ◌∙◌, inl, inr}
 use Rattle.std.proofs.{lemmas.Bool.{and_from, and_parts}, lemmas.List.{append-nil}, lemmas.Slice.Eq.{bytes_eq-Decides}}
-use Rattle.std.specs.{Prelude.{◌==◌, codes, option_and_then, option_map}, List.{AllZip, list_all, list_any, before_first, after_first}, Option.{option_map_or}}
+use Rattle.std.specs.{Prelude.{codes, option_and_then, option_map}, List.{AllZip, list_all, list_any, before_first, after_first}, Option.{option_map_or}}
 use Rattle.std.specs.{Ordering.{is_eq}, Str.{bytes_eq}}
 use Rattle.coinst_words.specs.{Usage.{Text}, Words.{goals_of}}
 use Rattle.deb_version.specs.{Grammar.{is_version}, Names.{is_name, is_name_byte, has_first}, Order.{version_order}}
@@ -89,12 +89,16 @@ names_from word name version goal e m = go (list_any is_equals word) refl e
         subst (λ w. NamesPackage w name version) (sym (parts_of word at)) (of_parts (before_first is_equals word) (after_first is_equals word) name version goal h m)
     go false at h = of_name word name version goal h m
 
+-- a name is a goal
+pub goal_named : (name : Text) → is_name name ≡ true → goal_of name ≡ Some (any_version name)
+unfolding goal_of
+goal_named name named = rw (name_unsigned name named, named) refl
+
 pub names_to : (word name version : Text) (goal : Goal) → is_name name ≡ true → goal_of word ≡ Some goal → NamesPackage word name version → is_meant goal name version ≡ true
 unfolding goal_of
 names_to word name version goal named e (inl same) =
     let here : goal_of name ≡ Some goal = subst (λ w. goal_of w ≡ Some goal) same e in
-    let is : goal_of name ≡ Some (any_version name) = rw (name_unsigned name named, named) refl in
-    let goal_is : any_version name ≡ goal = cc (sym is ∙ here) in
+    let goal_is : any_version name ≡ goal = cc (sym (goal_named name named) ∙ here) in
     subst (λ g. is_meant g name version ≡ true) goal_is (and_from (bytes_eq name name) true (same_name name) refl)
 names_to word name version goal named e (inr w) =
     let here : goal_of (name ++ 61 ∷ w.0) ≡ Some goal = subst (λ v. goal_of v ≡ Some goal) w.1 e in

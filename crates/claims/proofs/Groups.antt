@@ -1,10 +1,9 @@
 -- The groups of two texts one behind the other, and of a text in which the lines of some groups are made empty.
-use Rattle.std.proofs.Common.{◌≡◌, ℕ, Bool, true, false, cond, not, List, [], ◌∷◌, ◌++◌, filter, length, map, Option, Some, refl, sym, ap, ap₂, subst, ◌∙◌, append_assoc}
-use Rattle.std.proofs.lemmas.Slice.Eq.{bytes_eq-Decides}
-use Rattle.std.specs.{Prelude.{codes, nat_lt, unwrap_or}, List.{AllZip, slice_split, onto_first, list_any}, Str.{bytes_eq}}
+use Rattle.std.proofs.Common.{◌≡◌, Bool, true, false, cond, List, [], ◌∷◌, ◌++◌, filter, length, map, refl, sym, ap, ◌∙◌, append_assoc}
+use Rattle.std.specs.{Prelude.{codes, nat_lt, unwrap_or}, List.{slice_split, onto_first}}
 use Rattle.coinst_words.specs.Usage.{Text}
 use Rattle.relation_fields.specs.{declared.packages.Home.{Home}, declared.packages.PackageFacts.{PackageFacts}}
-use Rattle.stanza_reader.specs.{Blanking.{blanked, picked, whole_lines}, Lines.{Line, is_blank, is_line_feed, lines, numbered}, Stanzas.{groups, texts}}
+use Rattle.stanza_reader.specs.{Blanking.{blanked, picked, whole_lines}, Lines.{is_blank, is_line_feed, lines, numbered}, Stanzas.{groups, texts}}
 use Rattle.stanza_reader.specs.Stanzas as reader
 use Rattle.claims.specs.{Control.{field_value, stanza_groups}, Index.{Says}}
 use Rattle.stanza_reader.proofs.BlankLemmas.{are_lines, concat_whole, map_picked, picks}

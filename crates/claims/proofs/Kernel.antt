@@ -8,14 +8,14 @@ pub map_map : {A B C : Type 0} (f : B → C) (g : A → B) (xs : List A) → map
 map_map f g [] = refl
 map_map f g (x ∷ xs) = ap (λ more. f (g x) ∷ more) (map_map f g xs)
 
-map_same : {A : Type 0} (xs : List A) → map (λ x. x) xs ≡ xs
-map_same [] = refl
-map_same (x ∷ xs) = ap (λ more. x ∷ more) (map_same xs)
+pub map_itself : {A : Type 0} (xs : List A) → map (λ x. x) xs ≡ xs
+map_itself [] = refl
+map_itself (x ∷ xs) = ap (λ more. x ∷ more) (map_itself xs)
 
 -- after so many rounds, each of which changes something but for the last
 reached : (limit : ℕ) (hold : Bool) (n : ℕ) (R : Repository) (sets : List NumSet) → ((m : ℕ) → m < n → round limit hold (rounds limit hold R m) ≢ rounds limit hold R m)
     → round limit hold (rounds limit hold R n) ≡ rounds limit hold R n → SettlesTo limit hold R sets (rounds limit hold R n) (map (image_after limit hold R n) sets)
-reached limit hold zero R sets changes fixed = subst (SettlesTo limit hold R sets R) (sym (map_same sets)) (at_rest fixed)
+reached limit hold zero R sets changes fixed = subst (SettlesTo limit hold R sets R) (sym (map_itself sets)) (at_rest fixed)
 reached limit hold (suc n) R sets changes fixed =
     subst (SettlesTo limit hold R sets (rounds limit hold (round limit hold R) n)) (map_map (image_after limit hold (round limit hold R) n) (image (flat limit hold R)) sets)
     (after (changes 0 (omega arith)) (reached limit hold n (round limit hold R) (map (image (flat limit hold R)) sets) (λ m l. changes (suc m) (omega arith)) fixed))

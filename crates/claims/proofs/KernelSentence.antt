@@ -15,8 +15,8 @@ kernels_mean_this text printed format R members held accepted reads people stand
   members = members;
   held = held;
   reads = reads;
-  once = one_reading printed;
-  people = people;
-  stands = stands;
-  keeps = keeps;
+  no_other_reading = one_reading printed;
+  members_are_packages = people;
+  each_in_one_class = stands;
+  same_together = keeps;
 }

@@ -1,26 +1,25 @@
 -- What the text of the kernel of an index is, and which classes goals name in it.
-use Rattle.std.proofs.Common.{◌≡◌, ℕ, zero, ◌+◌, ◌<◌, ◌≤◌, Bool, true, false, ◌&&◌, eqb, eqb-true, eq-eqb, List, [], ◌∷◌, length, map, Option, Some, filter, slice_index_or, refl, sym, ap, ap₂, subst, ◌∙◌, arith, inl, inr}
-use Rattle.std.proofs.lemmas.Bool.{and_from, and_parts}
-use Rattle.std.specs.{Prelude.{◌↔◌}, List.{AllZip, list_any}, Str.{bytes_eq}}
+use Rattle.std.proofs.Common.{◌≡◌, ℕ, ◌+◌, ◌<◌, ◌≤◌, Bool, true, false, ◌&&◌, eqb, eqb-true, eq-eqb, List, [], ◌∷◌, length, map, Some, filter, slice_index_or, refl, sym, ap, ap₂, subst, ◌∙◌, arith}
+use Rattle.std.proofs.lemmas.{Bool.{and_from, and_parts}, List.FromFn.{length-map-range_with_len}}
+use Rattle.std.specs.{List.{AllZip}, Str.{bytes_eq}}
 use Rattle.coinst_words.specs.Usage.{Text}
-use Rattle.deb_version.specs.Names.{is_name}
 use Rattle.kernel_text.proofs.StoredReading.{one_reading}
 use Rattle.kernel_text.specs.{KernelReads.{KernelReads}, KernelText.{format_of, members_of}, declared.member.Member.{Member}}
-use Rattle.listed.specs.Lists.{Ascending, In, has}
+use Rattle.listed.specs.Lists.{In, has}
 use Rattle.listed.proofs.Lists.{In_flat_cases, In_has, any_cases, any_from, filter_cases, filter_from, has_In, same_bytes}
 use Rattle.listed.proofs.Orders.{ascending_filter, ascending_same}
-use Rattle.relation_fields.specs.{declared.packages.Home.{Home}, declared.packages.PackageFacts.{PackageFacts}}
+use Rattle.relation_fields.specs.declared.packages.PackageFacts.{PackageFacts}
 use Rattle.repo_model.specs.{declared.goals.Goal.{Goal}, Goals.{goal_of, is_named_by, packages_named}, Repository.{packages_of, suite_repository}}
 use Rattle.repo_model.specs.Stanzas.{stanza_at}
 use Rattle.repo_model.proofs.{Elements.{range_cases, range_from}, SoundSuite.{suite_sound}}
-use Rattle.row_book.specs.{Flattening.{packages}, Numbers.{numbers}, Repository.{Repository}, Rounds.{kernel, kernel_image}, Sets.{Is, NumSet}}
+use Rattle.row_book.specs.{Flattening.{held_of, packages}, Numbers.{numbers}, Repository.{Repository}, Rounds.{kernel, kernel_image}, Sets.{Is, NumSet}}
 use Rattle.row_book.proofs.Numbers.{numbers_ascending, numbers_from, numbers_parts}
 use Rattle.search_terms.specs.{declared.literals.Literal.{Literal}, Form.{form}}
-use Rattle.suite_compare.specs.Asking.{goal_classes, image_of, images_of}
+use Rattle.suite_compare.specs.Asking.{image_of, images_of}
 use Rattle.suite_compare.proofs.Deciding.{named_from}
-use Rattle.claims.specs.{Asked.{ComparedIndex}, Certificates.{AreAsked, AreClassesFor}, Classes.{classes_of, is_in_class}, Goals.{NamesPackage}}
-use Rattle.claims.specs.{Kernel.{SettlesTo}, Settled.{IsKernelText}}
-use Rattle.claims.proofs.{Goals.{AreGoals, names_from, names_to}, Kernel.{kernels_are_kernels, kernels_are_one}, Members.{text_same}}
+use Rattle.claims.specs.{Asked.{ComparedIndex}, Certificates.{AreAsked, AreClassesFor}, Classes.{classes_of, is_in_class, IsOneOf}, Goals.{NamesPackage}}
+use Rattle.claims.specs.Settled.{IsKernelText}
+use Rattle.claims.proofs.{Goals.{AreGoals, names_from, names_to}, Kernel.{kernels_are_kernels, kernels_are_one}, Members.{people_are, text_same}}
 
 first_same : (X Y : NumSet) → X ∷ [] ≡ Y ∷ [] → (n : ℕ) → X n ≡ Y n
 first_same X Y e n = ap (λ (sets : List NumSet). slice_index_or sets 0 (λ m. false) n) e
@@ -33,6 +32,10 @@ member_below text format R members held stands m i =
     let same : m.class ≡ w.0 = eqb-true m.class w.0 (filter_cases (λ (o : Member). eqb o.class w.0) members m w.2).1 in
     let p : (0 ≤ w.0) × (w.0 < 0 + size) = numbers_parts size 0 w.0 w.1 in
     omega (arith, same, p.1)
+
+-- each stanza has a class
+pub each_classed : (class : ℕ → ℕ) (stanzas : List PackageFacts) → length (map class (packages_of stanzas)) ≡ length stanzas
+each_classed class stanzas = length-map-range_with_len class 0 (length stanzas)
 
 -- the line of a member
 abbrev is_line_of : PackageFacts → Member → Bool
@@ -48,7 +51,7 @@ module _ (s : ComparedIndex) (text : Text) (k : IsKernelText s text) where
   -- its repository is the kernel, and its classes of a set are the image
   both_are : (S : NumSet) → ((n : ℕ) → Is S n → n < length s.stanzas) → (k.repository ≡ K) × (classes_of s.stanzas k.members S ∷ [] ≡ kernel_image s.limit s.hold R S ∷ [])
   both_are S inside =
-      kernels_are_one s.limit s.hold R (S ∷ []) k.repository K (classes_of s.stanzas k.members S ∷ []) (kernel_image s.limit s.hold R S ∷ []) (k.comes S inside)
+      kernels_are_one s.limit s.hold R (S ∷ []) k.repository K (classes_of s.stanzas k.members S ∷ []) (kernel_image s.limit s.hold R S ∷ []) (k.rounds_lead_here S inside)
       (kernels_are_kernels s.limit s.hold R (S ∷ []) (suite_sound s.home s.stanzas))
 
   pub repository_is : k.repository ≡ K
@@ -56,6 +59,10 @@ module _ (s : ComparedIndex) (text : Text) (k : IsKernelText s text) where
 
   pub image_is : (S : NumSet) → ((n : ℕ) → Is S n → n < length s.stanzas) → (n : ℕ) → classes_of s.stanzas k.members S n ≡ kernel_image s.limit s.hold R S n
   image_is S inside = first_same (classes_of s.stanzas k.members S) (kernel_image s.limit s.hold R S) (both_are S inside).1
+
+  -- its members are packages of the index
+  pub people : (m : Member) → In m k.members → IsOneOf s.stanzas m
+  people m i = people_are s.stanzas (map k.class (packages_of s.stanzas)) (each_classed k.class s.stanzas) (length k.repository.clauses) m (subst (λ ms. In m ms) k.members_in_order i)
 
   -- the classes that a goal names
   module _ (word : Text) (goal : Goal) (is : goal_of word ≡ Some goal) where
@@ -94,7 +101,7 @@ module _ (s : ComparedIndex) (text : Text) (k : IsKernelText s text) where
     class_from : (n : ℕ) → IsClassFor n → In n (filter image (packages K))
     class_from n w =
         let m : Member = w.0 in
-        let at = k.people m w.1 in
+        let at = people m w.1 in
         let it : PackageFacts = stanza_at s.stanzas at.0 in
         let meant = names_to word m.name m.version goal (k.reads.writable.named m w.1).0 is w.3 in
         let named : is_named_by goal it ≡ true = rw (at.2, at.3) meant in
@@ -106,7 +113,7 @@ module _ (s : ComparedIndex) (text : Text) (k : IsKernelText s text) where
         any_from (λ j. wanted j && is_in_class k.members (stanza_at s.stanzas j) n) (packages_of s.stanzas) at.0 (range_from (length s.stanzas) 0 at.0 (omega arith) (let l = at.1 in omega (arith, l)))
         (and_from (wanted at.0) (is_in_class k.members it n) chosen in_class) in
         let up : image n ≡ true = sym (image_is wanted inside n) ∙ here in
-        let low : m.class < length k.repository.clauses = member_below text (format_of s.hold) k.repository k.members k.held k.reads m w.1 in
+        let low : m.class < length k.repository.clauses = member_below text (format_of s.hold) k.repository k.members (held_of s.limit s.hold k.repository) k.reads m w.1 in
         let few : n < length K.clauses = subst (λ c. c < length K.clauses) w.2 (subst (λ (r : Repository). m.class < length r.clauses) repository_is low) in
         filter_from image (packages K) n (numbers_from (length K.clauses) 0 n (omega arith) (omega (arith, few))) up
 
@@ -125,7 +132,7 @@ module _ (s : ComparedIndex) (text : Text) (k : IsKernelText s text) where
     format = format_of s.hold;
     repository = k.repository;
     members = k.members;
-    held = k.held;
+    held = held_of s.limit s.hold k.repository;
     reads = k.reads;
     wanted = images_of s.limit s.hold s.home s.stanzas goals;
     each = each_class words goals z;

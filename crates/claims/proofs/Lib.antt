@@ -14,6 +14,8 @@ pub mod Members
 pub mod PrintedKernels
 pub mod Goals
 pub mod KernelTexts
+pub mod KernelsAreOne
+pub mod Budget
 pub mod AskingWords
 pub mod Meeting
 pub mod StoredAsking
@@ -21,4 +23,7 @@ pub mod Groups
 pub mod Passing
 pub mod Plans
 pub mod Systems
+pub mod Keeping
+pub mod Cores
 pub mod Wrong
+pub mod Reports

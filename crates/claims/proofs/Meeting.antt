@@ -1,5 +1,5 @@
 -- Goals can be met, by their words, where they are co-installable.
-use Rattle.std.proofs.Common.{◌≡◌, ℕ, ◌<◌, Bool, true, List, length, refl, sym, subst}
+use Rattle.std.proofs.Common.{◌≡◌, ℕ, ◌<◌, true, List, length}
 use Rattle.coinst_words.specs.Usage.{Text}
 use Rattle.deb_version.specs.Names.{is_name}
 use Rattle.listed.specs.Lists.{In}

@@ -1,7 +1,7 @@
 -- Names that differ, and mixes, as the code has them.
-use Rattle.std.proofs.Common.{◌≡◌, ℕ, ◌<◌, Bool, true, false, cond, not, ◌&&◌, List, [], ◌∷◌, ◌++◌, filter, length, map, Option, Some, None, refl, sym, ap, ap₂, subst, ◌∙◌, inl, inr}
+use Rattle.std.proofs.Common.{◌≡◌, Bool, true, not, List, [], ◌∷◌, ◌++◌, filter, map, None, refl, sym, ap, ap₂, subst, ◌∙◌, inl, inr}
 use Rattle.std.proofs.lemmas.Bool.{and_from, and_parts, cases_Bool}
-use Rattle.std.specs.{Prelude.{◌↔◌, codes, unwrap_or}, Cmp.Lexicographic.{pointwise}, List.{AllZip}, Str.{bytes_eq}}
+use Rattle.std.specs.{Cmp.Lexicographic.{pointwise}, List.{AllZip}, Str.{bytes_eq}}
 use Rattle.clause_pool.specs.Lists.{InOrder}
 use Rattle.clause_pool.proofs.Order.{order_filter, ordered_has, ordered_order}
 use Rattle.coinst_words.specs.Usage.{Text}
@@ -12,10 +12,9 @@ use Rattle.migrate_plan.specs.{Differing.{differing, differs, packages_of_name, 
 use Rattle.migrate_plan.proofs.Deciding.{test_is_equality}
 use Rattle.relation_fields.specs.{declared.packages.Home.{Home}, declared.packages.PackageFacts.{PackageFacts}}
 use Rattle.repo_model.specs.{FirstFault.{first_fault}, Goals.{names_in}}
-use Rattle.stanza_reader.specs.Blanking.{blanked, picked}
+use Rattle.stanza_reader.specs.Blanking.{picked}
 use Rattle.suite_compare.specs.Refusals.{home_in, packages_in}
-use Rattle.claims.specs.{Asked.{ComparedIndex}, Control.{field_value, stanza_groups}, Index.{IndexSays, Says, SaysTheSame}, Laws.{suite_of}}
-use Rattle.claims.specs.Plans.{Differs, IsMix, group_name}
+use Rattle.claims.specs.{Control.{stanza_groups}, Index.{IndexSays, Says, SaysTheSame}, Laws.{suite_of}, Plans.{IsMix, group_name}}
 use Rattle.claims.proofs.{Groups.{groups_join, groups_picked, name_of_group, picked_by}, Index.{indexes_are_read}}
 
 -- the name of a package is one of their names

@@ -1,26 +1,29 @@
 -- The text that is printed of the kernel of an index.
-use Rattle.std.proofs.Common.{◌≡◌, ℕ, ◌<◌, Bool, true, List, [], ◌∷◌, length, map, eqb, slice_index_or, refl, sym, ap, subst, ◌∙◌, arith, zero-add}
+use Rattle.std.proofs.Common.{◌≡◌, ℕ, ◌<◌, Bool, true, List, [], ◌∷◌, length, map, slice_index_or, refl, sym, ap, subst, ◌∙◌, arith, zero-add}
 use Rattle.std.specs.Prelude.{◌↔◌}
 use Rattle.relation_fields.specs.{declared.packages.Home.{Home}, declared.packages.PackageFacts.{PackageFacts}}
-use Rattle.repo_model.specs.{Repository.{suite_repository}, Stanzas.{CoinstStanzas, stanza_at}}
+use Rattle.repo_model.specs.{Repository.{packages_of, suite_repository}, Stanzas.{CoinstStanzas, stanza_at}}
 use Rattle.repo_model.proofs.Accepted.{Accepted}
 use Rattle.repo_model.proofs.Accepted as accepting
 use Rattle.repo_model.proofs.{Healthy.{coinst_same}, Packages.{length_clauses}, SoundSuite.{suite_sound}}
 use Rattle.row_book.specs.{Flattening.{packages}, Repository.{Repository, Coinst}, Rounds.{kernel, kernel_class, kernel_held, kernel_image, round_count}}
 use Rattle.row_book.specs.Sets.{Is, NumSet}
-use Rattle.row_book.proofs.Numbers.{at_numbers}
+use Rattle.row_book.proofs.Numbers.{at_numbers, numbers_ranged}
 use Rattle.kernel_rounds.specs.Laws.{HasImage}
 use Rattle.kernel_rounds.proofs.{Reached.{image_is_of_classes_lem, kernel_is_lem, kernel_keeps_lem}, Classes.{class_within}}
-use Rattle.kernel_text.specs.{KernelReads.{KernelReads}, KernelText.{format_of, kernel_text, members_of}, Laws.{IsKernelOf}}
-use Rattle.kernel_text.specs.{Members.{file_members, kernel_members}, declared.member.Member.{Member}}
-use Rattle.listed.{proofs.Bools.{same_bool}, proofs.Lists.{In_flat_cases, filter_cases}, specs.Lists.{In}}
+use Rattle.kernel_text.specs.{KernelReads.{KernelReads}, KernelText.{format_of, kernel_text}, Laws.{IsKernelOf}, Members.{kernel_members}}
+use Rattle.kernel_text.specs.declared.member.Member.{Member}
+use Rattle.listed.{proofs.Bools.{same_bool}, specs.Lists.{In}}
 use Rattle.row_book.specs.Numbers.{numbers}
 use Rattle.kernel_text.proofs.{Classified.{kernels_are_writable}, ReadIsWritten.{read_is_written}, Extracted.{kernel_fits}}
-use Rattle.claims.specs.{Classes.{classes_of, IsItsClass, IsOneOf}, Kernel.{SettlesTo, at_rest}}
-use Rattle.claims.specs.Laws.{KernelTextsAreThere, PrintedKernelsAreFaithful, kernel_printed}
-use Rattle.claims.proofs.{Index.{indexes_are_read}, Kernel.{kernels_are_kernels}, Members.{class_from, class_parts, file_at, stands_once}}
+use Rattle.claims.specs.{Classes.{classes_of, IsItsClass, IsOneOf}, Kernel.{SettlesTo}, Laws.{KernelTextsAreThere, PrintedKernelsAreFaithful, kernel_printed}}
+use Rattle.claims.proofs.{Index.{indexes_are_read}, Kernel.{kernels_are_kernels}, Members.{class_from, class_parts, people_are, stands_once}}
 use Rattle.claims.proofs.KernelSentence.{kernels_mean_this}
 use Rattle.suite_compare.specs.Refusals.{home_in, packages_in}
+
+-- the packages of the repository of an index are its stanzas
+packages_are : (home : Home) (stanzas : List PackageFacts) → packages (suite_repository home stanzas) ≡ packages_of stanzas
+packages_are home stanzas = ap (λ n. numbers n 0) (length_clauses home stanzas) ∙ sym (numbers_ranged (length stanzas) 0)
 
 -- the kernel of an accepted index at a limit, with hold or without, with its members
 module _ (limit : ℕ) (hold : Bool) (home : Home) (stanzas : List PackageFacts) (accepted : Accepted stanzas) where
@@ -50,7 +53,7 @@ module _ (limit : ℕ) (hold : Bool) (home : Home) (stanzas : List PackageFacts)
       subst (λ n. n < size) (sym (class_is i l)) (class_within limit hold (round_count limit hold (suite_repository home stanzas)) (suite_repository home stanzas) (suite_sound home stanzas) i k)
 
   pub stands : (i : ℕ) → i < length stanzas → (k : ℕ) × IsItsClass size (kernel_members stanzas classes size) (stanza_at stanzas i) k
-  stands i l = stands_once stanzas accepted.single classes fits.each size within i l
+  stands i l = stands_once stanzas classes fits.each size accepted.single within i l
 
   pub reads : KernelReads (kernel_text (format_of hold) K (kernel_members stanzas classes size) held) (format_of hold) K (kernel_members stanzas classes size) held
   reads =
@@ -59,12 +62,11 @@ module _ (limit : ℕ) (hold : Bool) (home : Home) (stanzas : List PackageFacts)
 
   -- each member is a stanza
   pub people : (m : Member) → In m (kernel_members stanzas classes size) → IsOneOf stanzas m
-  unfolding kernel_members
-  people m i =
-      let block = In_flat_cases (members_of (file_members stanzas classes)) (numbers size 0) m i in
-      let filed = (filter_cases (λ (o : Member). eqb o.class block.0) (file_members stanzas classes) m block.2).0 in
-      let at = file_at stanzas classes fits.each m filed in
-      (at.0, at.1, sym (ap (λ (o : Member). o.name) at.2), sym (ap (λ (o : Member). o.version) at.2))
+  people = people_are stanzas classes fits.each size
+
+  -- the packages of the repository are the stanzas
+  pub classes_are : classes ≡ map (kernel_class limit hold (suite_repository home stanzas)) (packages_of stanzas)
+  classes_are = ap (map (kernel_class limit hold (suite_repository home stanzas))) (packages_are home stanzas)
 
   -- the classes of a set are its image
   module _ (S : NumSet) (small : (n : ℕ) → Is S n → n < length stanzas) where
@@ -73,14 +75,14 @@ module _ (limit : ℕ) (hold : Bool) (home : Home) (stanzas : List PackageFacts)
 
     image_to : (n : ℕ) → Is (classes_of stanzas (kernel_members stanzas classes size) S) n → Is (kernel_image limit hold (suite_repository home stanzas) S) n
     image_to n h =
-        let w : (i : ℕ) × (i < length stanzas) × Is S i × (slice_index_or classes i 0 ≡ n) = class_parts stanzas accepted.single classes fits.each size within S n h in
+        let w : (i : ℕ) × (i < length stanzas) × Is S i × (slice_index_or classes i 0 ≡ n) = class_parts stanzas classes fits.each size accepted.single S n h in
         (image_is_of_classes_lem limit hold (suite_repository home stanzas) (suite_sound home stanzas) S few n).1 (record { by = w.0; within = few w.0 w.2; inside = w.2; class = sym (class_is w.0 w.1) ∙ w.3 })
 
     image_from : (n : ℕ) → Is (kernel_image limit hold (suite_repository home stanzas) S) n → Is (classes_of stanzas (kernel_members stanzas classes size) S) n
     image_from n h =
         let w : HasImage limit hold (suite_repository home stanzas) S n = (image_is_of_classes_lem limit hold (suite_repository home stanzas) (suite_sound home stanzas) S few n).0 h in
         let l : w.by < length stanzas = small w.by w.inside in
-        subst (λ z. Is (classes_of stanzas (kernel_members stanzas classes size) S) z) (class_is w.by l ∙ w.class) (class_from stanzas accepted.single classes fits.each size within S w.by l w.inside)
+        subst (λ z. Is (classes_of stanzas (kernel_members stanzas classes size) S) z) (class_is w.by l ∙ w.class) (class_from stanzas classes fits.each size accepted.single within S w.by l w.inside)
 
     pub comes : SettlesTo limit hold (suite_repository home stanzas) (S ∷ []) K (classes_of stanzas (kernel_members stanzas classes size) S ∷ [])
     comes =
@@ -101,7 +103,7 @@ module _ (limit : ℕ) (hold : Bool) (home : Home) (stanzas : List PackageFacts)
               whole = k.whole;
               healthy = k.healthy;
               contains = λ n h.
-                  let w : (i : ℕ) × (i < length stanzas) × Is S i × (slice_index_or classes i 0 ≡ n) = class_parts stanzas accepted.single classes fits.each size within S n h in
+                  let w : (i : ℕ) × (i < length stanzas) × Is S i × (slice_index_or classes i 0 ≡ n) = class_parts stanzas classes fits.each size accepted.single S n h in
                   k.contains n ((image_is_of_classes_lem limit hold (suite_repository home stanzas) (suite_sound home stanzas) S few n).1
                   (record { by = w.0; within = few w.0 w.2; inside = w.2; class = sym (class_is w.0 w.1) ∙ w.3 }));
             }),
@@ -112,7 +114,7 @@ module _ (limit : ℕ) (hold : Bool) (home : Home) (stanzas : List PackageFacts)
               contains = λ n h.
                   let w : HasImage limit hold (suite_repository home stanzas) S n = (image_is_of_classes_lem limit hold (suite_repository home stanzas) (suite_sound home stanzas) S few n).0 h in
                   let l : w.by < length stanzas = small w.by w.inside in
-                  c.contains n (subst (λ z. Is (classes_of stanzas (kernel_members stanzas classes size) S) z) (class_is w.by l ∙ w.class) (class_from stanzas accepted.single classes fits.each size within S w.by l w.inside));
+                  c.contains n (subst (λ z. Is (classes_of stanzas (kernel_members stanzas classes size) S) z) (class_is w.by l ∙ w.class) (class_from stanzas classes fits.each size accepted.single within S w.by l w.inside));
             } in
             (coinst_same home stanzas S).1 ((kernel_keeps_lem limit hold (suite_repository home stanzas) (suite_sound home stanzas) S few).1 k)),
       )
@@ -136,10 +138,9 @@ kernel_texts_are_there index fine =
       index = indexes_are_read index.text fine;
       repository = K limit hold home stanzas f;
       members = kernel_members stanzas (classes limit hold home stanzas f) (size limit hold home stanzas f);
-      held = held limit hold home stanzas f;
+      class = kernel_class limit hold (suite_repository home stanzas);
       reads = reads limit hold home stanzas f;
-      people = people limit hold home stanzas f;
-      comes = comes limit hold home stanzas f;
-      stay = refl;
+      members_in_order = ap (λ (cs : List ℕ). kernel_members stanzas cs (size limit hold home stanzas f)) (classes_are limit hold home stanzas f);
+      rounds_lead_here = comes limit hold home stanzas f;
       settled = (kernel_is_lem limit hold (suite_repository home stanzas) (suite_sound home stanzas)).settled;
     }

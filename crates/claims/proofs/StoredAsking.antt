@@ -1,22 +1,21 @@
 -- What goals ask of a stored kernel, and that it answers as the index of which it is the kernel.
-use Rattle.std.proofs.Common.{◌≡◌, ℕ, ◌+◌, ◌<◌, ◌≤◌, Bool, true, ◌&&◌, Some, eqb, eqb-true, eq-eqb, List, [], ◌∷◌, length, map, filter, refl, sym, ap, subst, ◌∙◌, arith}
+use Rattle.std.proofs.Common.{◌≡◌, ℕ, ◌<◌, true, Some, eqb, eqb-true, eq-eqb, List, [], ◌∷◌, length, refl, sym, subst, ◌∙◌, arith}
 use Rattle.std.proofs.lemmas.Bool.{and_from, and_parts}
-use Rattle.std.specs.List.{AllZip, list_any}
+use Rattle.std.specs.List.{AllZip}
 use Rattle.coinst_words.specs.Usage.{Text}
-use Rattle.deb_version.specs.Names.{is_name}
 use Rattle.kernel_text.specs.{Images.{image_of, is_named_by, is_named_in, names_in_class}, KernelReads.{KernelContent, KernelReads}, KernelText.{format_of}}
 use Rattle.kernel_text.specs.{declared.member.Member.{Member}, Serving.{CoinstStored, HasClassFor, ServesStored, images_in}}
 use Rattle.kernel_text.proofs.StoredReading.{one_reading}
-use Rattle.listed.specs.Lists.{In, has}
+use Rattle.listed.specs.Lists.{In}
 use Rattle.listed.proofs.{Lists.{In_map, In_map_cases, any_cases, any_from, filter_cases, filter_from}, Orders.{ascending_filter}}
 use Rattle.repo_model.specs.{declared.goals.Goal.{Goal}, Goals.{goal_of, CoinstGoals}, Repository.{suite_repository}}
-use Rattle.row_book.specs.{Numbers.{numbers}, Repository.{Healthy, Repository}, Rounds.{kernel}, Sets.{Hit, HitsAll, Is, NumSet}}
+use Rattle.row_book.specs.{Flattening.{held_of}, Numbers.{numbers}, Repository.{Healthy}, Rounds.{kernel}, Sets.{Hit, HitsAll, Is, NumSet}}
 use Rattle.row_book.proofs.Numbers.{numbers_ascending, numbers_from}
 use Rattle.search_terms.specs.Form.{form}
 use Rattle.suite_compare.specs.{Asking.{images_of}, Laws.{CoinstImages}}
 use Rattle.suite_compare.specs.Asking as asking
 use Rattle.suite_compare.proofs.Deciding.{kernel_decides}
-use Rattle.claims.specs.{Asked.{ComparedIndex}, Certificates.{AreAsked, AreClassesFor, HasClassOfEach}, Goals.{CanMeet, NamesPackage}, Settled.{IsKernelText}}
+use Rattle.claims.specs.{Asked.{ComparedIndex}, Certificates.{AreAsked, AreClassesFor, HasClassOfEach}, Goals.{NamesPackage}, Settled.{IsKernelText}}
 use Rattle.claims.proofs.{Goals.{AreGoals, goal_for, names_from, names_to, word_for}, KernelTexts.{classes_are, member_below, repository_is}}
 
 module _ (text : Text) (c : KernelContent) (stands : KernelReads text c.format c.repository c.members c.held) where
@@ -81,10 +80,10 @@ module _ (text : Text) (c : KernelContent) (stands : KernelReads text c.format c
     -- of the text of the kernel of an index
     module _ (s : ComparedIndex) (k : IsKernelText s text) where
       repository_same : c.repository ≡ kernel s.limit s.hold (suite_repository s.home s.stanzas)
-      repository_same = (one_reading text c.format (format_of s.hold) c.repository k.repository c.members k.members c.held k.held stands k.reads).1 ∙ repository_is s text k
+      repository_same = (one_reading text c.format (format_of s.hold) c.repository k.repository c.members k.members c.held (held_of s.limit s.hold k.repository) stands k.reads).1 ∙ repository_is s text k
 
       members_same : c.members ≡ k.members
-      members_same = (one_reading text c.format (format_of s.hold) c.repository k.repository c.members k.members c.held k.held stands k.reads).2
+      members_same = (one_reading text c.format (format_of s.hold) c.repository k.repository c.members k.members c.held (held_of s.limit s.hold k.repository) stands k.reads).2
 
       -- classes that serve the goals there hit their classes in the kernel
       hits_from : (set : NumSet) → ServesStored c goals set → HitsAll set (images_of s.limit s.hold s.home s.stanzas goals)

@@ -1,28 +1,27 @@
 -- The own packages of a status file, by its groups of lines.
-use Rattle.std.proofs.Common.{◌≡◌, ◌≢◌, ℕ, zero, suc, ◌+◌, ◌<◌, ◌≤◌, Bool, true, false, not, cond, ◌&&◌, ◌||◌, eqb, List, [], ◌∷◌, ◌++◌, Option, Some, None, Result, Ok, Err, filter, length, map, slice_index_or, refl, sym, ap, ap₂, subst, ◌∙◌, arith, inl, inr, ◌⊎◌}
-use Rattle.std.proofs.{lemmas.Bool.{and_from, and_parts}, lemmas.Bool.Decides.{nat_tests}, lemmas.List.Sums.{sum_by-cons}}
-use Rattle.std.specs.{Prelude.{codes, count_by, nat_lt, unwrap_or}, List.{AllZip, list_any}, Option.{option_map, option_map_or, option_or}, Result.{result_err}}
-use Rattle.std.specs.{Ordering.{is_eq}, Str.{bytes_eq}}
+use Rattle.std.proofs.Common.{◌≡◌, ℕ, zero, suc, ◌+◌, ◌<◌, true, false, not, cond, ◌&&◌, ◌||◌, List, [], ◌∷◌, Option, Some, None, Result, Ok, Err, filter, length, map, slice_index_or, refl, sym, ap, ap₂, subst, ◌∙◌, arith, inl, inr}
+use Rattle.std.proofs.{lemmas.Bool.Decides.{nat_tests}, lemmas.List.Sums.{sum_by-cons}}
+use Rattle.std.specs.{Prelude.{codes, count_by, nat_lt, unwrap_or}, List.{AllZip}, Option.{option_map, option_map_or, option_or}, Result.{result_err}}
+use Rattle.std.specs.Str.{bytes_eq}
 use Rattle.coinst_words.specs.Usage.{Text}
-use Rattle.listed.specs.Lists.{In, here, there, has}
-use Rattle.listed.proofs.{Bools.{same_bool}, Lists.{In_at, In_cases, In_has, In_map, In_map_cases, In_none, any_cases, any_from, filter_same, has_In}}
+use Rattle.listed.specs.Lists.{In}
+use Rattle.listed.proofs.Lists.{In_at, In_cases, In_none, any_cases, any_from}
 use Rattle.relation_fields.specs.{declared.packages.Home.{Home}, declared.packages.PackageFacts.{PackageFacts}, declared.relations.Atom.{Atom}, Meeting.{meets}}
-use Rattle.repo_model.specs.{Fields.{field_of}, FirstFault.{first_fault, stanzas_of}, Repository.{clause_of, in_conflict, meets_any, suite_repository}}
+use Rattle.repo_model.specs.{Fields.{field_of}, FirstFault.{first_fault, stanzas_of}, Repository.{clause_of, suite_repository}}
 use Rattle.repo_model.specs.{Stanzas.{Met, stanza_at, HealthyStanzas}, declared.fault.IndexFault.TheVariants.{Stanza}}
 use Rattle.repo_model.proofs.Packages.{against_cases, against_from, clause_cases, clause_from, literal_cases, literal_from}
-use Rattle.row_book.specs.{Flags.{flag}, Health.{ClashFirst, UnhitFirst}, Repository.{Satisfied, clauses_of}, Sets.{Hit, Is, NumSet}}
-use Rattle.stanza_reader.specs.{Blanking.{blanked, picked}, Lines.{Line, lines, numbered}, Stanzas.{readings, stanza_of, stanzas, texts}}
+use Rattle.row_book.specs.{Health.{ClashFirst, UnhitFirst}, Repository.{Satisfied, clauses_of}, Sets.{Hit, Is}}
+use Rattle.stanza_reader.specs.{Blanking.{picked}, Lines.{Line, lines, numbered}, Stanzas.{readings, stanza_of, stanzas, texts}}
 use Rattle.stanza_reader.specs.Stanzas as reader
 use Rattle.stanza_reader.specs.{declared.stanza.FieldKind.{FieldKind}, declared.stanza.FieldKind.TheVariants.{Architecture, Status}}
-use Rattle.stanza_reader.specs.{declared.stanza.RawField.{RawField}, declared.stanza.RawStanza.{RawStanza}, declared.fault.StanzaFault.{StanzaFault}}
-use Rattle.stanza_reader.proofs.BlankLemmas.{good, good_readings}
+use Rattle.stanza_reader.specs.{declared.stanza.RawField.{RawField}, declared.stanza.RawStanza.{RawStanza}}
+use Rattle.stanza_reader.proofs.BlankLemmas.{good_readings}
 use Rattle.status_check.specs.Installed.{is_elsewhere, is_foreign, is_installed, is_own, says_installed, words}
 use Rattle.status_check.specs.{Own.{foreign_count, lines_fault, own_home, own_packages, own_text, status_fault}, Report.{IsStateOf, all_of}}
 use Rattle.status_check.specs.{declared.report.OwnState.{OwnState}, declared.report.OwnState.TheVariants.{Healthy, Unhit, Clash}}
 use Rattle.status_check.proofs.OwnTexts.{all_stanzas}
 use Rattle.repo_model.proofs.Healthy.{healthy_same}
-use Rattle.suite_compare.specs.Refusals.{home_in, packages_in}
-use Rattle.claims.specs.{Control.{IsStanza, field_value, stanza_groups}, Index.{GroupsSay, IndexSays}, Systems.{HasItsNeeds, IsOwnState, all_stanzas as all_set, is_elsewhere_group, is_foreign_group, is_installed_group, is_own_group}}
+use Rattle.claims.specs.{Control.{IsStanza, field_value, stanza_groups}, Index.{GroupsSay, IndexSays}, Goals.{all_stanzas as all_set}, Systems.{HasItsNeeds, IsOwnState, is_elsewhere_group, is_foreign_group, is_installed_group, is_own_group}}
 use Rattle.claims.proofs.{Control.{IsRead, group_is_read, groups_are_theirs}, Groups.{groups_picked, picked_by}, Index.{indexes_are_read, zip_ok}}
 use Rattle.claims.proofs.Values.{key, kept_value, value_is}
 

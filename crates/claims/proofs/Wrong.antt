@@ -1,40 +1,37 @@
 -- Reports of which the sentences are not true.
-use Rattle.std.proofs.Common.{◌≡◌, ◌≢◌, ℕ, zero, suc, ◌<◌, ◌≤◌, Bool, true, false, not, cond, ◌||◌, eqb, eqb-true, List, [], ◌∷◌, ◌++◌, Result, Ok, Err, Some, None, length, refl, sym, ap, subst, ◌∙◌, arith, inl, inr}
+use Rattle.std.proofs.Common.{◌≡◌, ℕ, ◌<◌, Bool, true, false, not, cond, ◌||◌, eqb, eqb-true, List, [], ◌∷◌, ◌++◌, Result, Ok, Err, Some, None, length, refl, sym, ap, subst, ◌∙◌, arith, inl, inr}
 use Rattle.std.specs.{Prelude.{codes, slice_index_or}, Fmt.{digits}, List.{AllZip, list_any}}
 use Rattle.deb_version.specs.Grammar.{behind_epoch, epoch_of, is_version, revision_in, upstream_in}
 use Rattle.clause_pool.proofs.Order.{before_asym}
 use Rattle.coinst_words.specs.Usage.{Text}
-use Rattle.explain_core.specs.declared.explanation.Clash.{Clash}
 use Rattle.headline.specs.{Indexes.{SearchedIndex}, Listing.{is_broken}}
-use Rattle.kernel_text.specs.{KernelLines.{line_text, with_feed}, KernelReads.{KernelContent, KernelReads, content}}
+use Rattle.kernel_text.specs.{KernelLines.{line_text, with_feed}, KernelReads.{KernelContent, content}, KernelText.{format_of}}
 use Rattle.kernel_text.specs.{Reading.{number_limit, repository_of_reading}, StoredReading.{stored_reading}, declared.fault.KernelFault.{KernelFault}}
 use Rattle.kernel_text.specs.declared.member.Member.{Member}
 use Rattle.kernel_text.proofs.StoredReading.{texts_are_told}
-use Rattle.listed.specs.Lists.{In, has, here}
+use Rattle.listed.specs.Lists.{In, here}
 use Rattle.listed.specs.Texts as white
 use Rattle.listed.proofs.Lists.{In_cases, In_none}
 use Rattle.migrate_plan.specs.{declared.plan.PlanLine.{PlanLine}, declared.plan.PlanLine.TheVariants.{Take}}
-use Rattle.relation_fields.specs.{declared.packages.Home.{Home}, declared.packages.PackageFacts.{PackageFacts}, declared.relations.Atom.{Atom}}
+use Rattle.relation_fields.specs.{declared.packages.Home.{Home}, declared.packages.PackageFacts.{PackageFacts}}
 use Rattle.repo_model.specs.{FirstFault.{first_fault}, Stanzas.{HealthyStanzas, stanza_at}}
-use Rattle.row_book.specs.Sets.{Is, NumSet}
+use Rattle.row_book.specs.{Book.{lists_of_pairs}, Flattening.{held_of}, Numbers.{numbers}, Rounds.{Settled}, Sets.{NumSet}}
 use Rattle.search_terms.specs.{Derives.{Derives}, declared.literals.Literal.{Literal}}
 use Rattle.status_check.specs.{declared.report.OwnState.{OwnState}, declared.report.OwnState.TheVariants.{Healthy, Unhit, Clash as Clashing}}
-use Rattle.suite_compare.specs.{Refusals.{home_in, packages_in}, declared.report.ReportLine.{ReportLine}}
-use Rattle.suite_compare.specs.declared.report.ReportLine.TheVariants.{Broken1, Broken2, Open1, Open2}
-use Rattle.claims.specs.Answers.{printed_entry, printed_installation, printed_no, printed_undecided}
-use Rattle.claims.specs.{Asked.{ComparedIndex, FoundInstallable, FoundUninstallable, IsAsked}, Certificates.{AreAsked, Refutes}}
-use Rattle.claims.specs.{Control.{field_value, stanza_groups}, Explained.{ToldGoal, printed_core, told_words}, Goals.{CanMeet, HasEach}}
-use Rattle.claims.specs.{Index.{GroupsSay, Says}, Plans.{IsMix}, Laws.{WrongReports, a_class, a_package, kernel_printed, suite_of}}
-use Rattle.claims.specs.{Printed.{Precedes, comparison_status, names_of}, Systems.{IsOwnState, all_stanzas, system_status}}
+use Rattle.suite_compare.specs.{declared.report.ReportLine.{ReportLine}, declared.report.ReportLine.TheVariants.{Broken1, Broken2, Open1, Open2}}
+use Rattle.claims.specs.{Answers.{printed_installation, printed_no}, Asked.{ComparedIndex}, Compared.{FoundInstallable, FoundUninstallable, IsAsked}}
+use Rattle.claims.specs.{Certificates.{Refutes}, Control.{stanza_groups}, Explained.{PrintedGoal, printed_core, kept_words}}
+use Rattle.claims.specs.{Goals.{CanMeet, HasEach, all_stanzas}, Index.{GroupsSay, Says}, Plans.{IsMix}, Settled.{IsKernelText}}
+use Rattle.claims.specs.{Laws.{WrongReports, a_class, a_package, suite_of, two_classes}, Printed.{Precedes, comparison_status, names_of}}
+use Rattle.claims.specs.Systems.{IsOwnState, system_status}
 use Rattle.claims.specs.Sentences.{IsFaithfulAnswer, IsFaithfulExplanation, IsFaithfulKernel, IsFaithfulList, IsFaithfulPlan, IsFaithfulStoredAnswer, IsFaithfulSystem, IsRightStep}
 use Rattle.claims.specs.Spelling.{WritesAlternatives, WritesAtom}
 use Rattle.claims.specs.Sentences.IsFaithfulAnswer.{yes as answer_yes, no as answer_no, undecided as answer_undecided}
 use Rattle.claims.specs.Sentences.IsFaithfulStoredAnswer.{yes as classes_yes, no as classes_no, undecided as classes_undecided}
-use Rattle.claims.specs.Sentences.IsFaithfulExplanation.{yes as told_yes, core as told_core, undecided as told_undecided}
-use Rattle.claims.proofs.PrintedKernels.{kernel_texts_are_there}
+use Rattle.claims.specs.Sentences.IsFaithfulExplanation.{yes as yes_printed, core as core_printed, undecided as undecided_printed}
 use Rattle.row_book.specs.Repository.{Repository}
 
-nothing : {A B : Type 0} (R : A → B → Type 0) (ys : List B) → AllZip R [] ys → ys ≡ []
+pub nothing : {A B : Type 0} (R : A → B → Type 0) (ys : List B) → AllZip R [] ys → ys ≡ []
 nothing R [] z = refl
 nothing R (y ∷ ys) z = absurd z
 
@@ -54,7 +51,7 @@ reads_a : content_of (stored_reading a_class) ≡ member_a ∷ []
 unfolding stored_reading number_limit repository_of_reading member_a line_text digits is_version epoch_of behind_epoch upstream_in revision_in
 reads_a = refl
 
-empty_groups : stanza_groups [] ≡ []
+pub empty_groups : stanza_groups [] ≡ []
 unfolding stanza_groups
 empty_groups = refl
 
@@ -62,11 +59,32 @@ stranger : ¬ (IsFaithfulKernel [] a_class)
 stranger k =
     let read : stored_reading a_class ≡ Ok (content k.format k.repository k.members k.held) = (texts_are_told a_class k.format k.repository k.members k.held).0 k.reads in
     let them : k.members ≡ member_a ∷ [] = sym (ap content_of read) ∙ reads_a in
-    let at = k.people member_a (subst (λ ms. In member_a ms) (sym them) here) in
+    let at = k.members_are_packages member_a (subst (λ ms. In member_a ms) (sym them) here) in
     let none : k.stanzas ≡ [] = nothing (Says k.home) k.stanzas (subst (λ groups. AllZip (Says k.home) groups k.stanzas) empty_groups k.index.each) in
     let low : at.0 < length k.stanzas = at.1 in
     let zero_long : length k.stanzas ≡ 0 = ap length none in
     omega (arith, low, zero_long)
+
+-- a kernel text with two classes that are alike
+abbrev two_empty : Repository
+two_empty = record { clauses = [] ∷ [] ∷ []; conflicts = [] ∷ [] ∷ [] }
+
+abbrev repository_in : Result KernelContent KernelFault → Repository
+repository_in (Ok c) = c.repository
+repository_in (Err fault) = two_empty
+
+reads_two : repository_in (stored_reading two_classes) ≡ two_empty
+unfolding stored_reading number_limit repository_of_reading line_text digits is_version epoch_of behind_epoch upstream_in revision_in numbers lists_of_pairs
+reads_two = refl
+
+two_alike : (index : ComparedIndex) → ¬ (IsKernelText index two_classes)
+two_alike index k =
+    let held : List ℕ = held_of index.limit index.hold k.repository in
+    let read : stored_reading two_classes ≡ Ok (content (format_of index.hold) k.repository k.members held) = (texts_are_told two_classes (format_of index.hold) k.repository k.members held).0 k.reads in
+    let is : k.repository ≡ two_empty = sym (ap repository_in read) ∙ reads_two in
+    let settled : Settled index.limit index.hold two_empty = subst (Settled index.limit index.hold) is k.settled in
+    let same : 1 ≡ 0 = settled.unlike 0 1 (omega arith) (omega arith) refl in
+    omega (arith, same)
 
 -- the package of an index of one
 abbrev group : List Text
@@ -134,8 +152,7 @@ derives_not formula d = let last = d.last in let no : ⊥ = cc in no
 no_entry : (index : SearchedIndex) (goals : List Text) (status : ℕ) → first_fault index.text ≡ None → ¬ (IsFaithfulAnswer (suite_of index) goals status (printed_no []))
 no_entry index goals status fine (answer_yes ends set e within order healthy each) = let h : 110 ≡ 121 = ap head_of e in omega (arith, h)
 no_entry index goals status fine (answer_no ends log e within none refutes) =
-    let shown : Refutes (kernel_printed index.limit index.hold (home_in index.text) (packages_in index.text)) goals log
-    = refutes (kernel_printed index.limit index.hold (home_in index.text) (packages_in index.text)) (kernel_texts_are_there index fine) in
+    let shown : Refutes refutes.0 goals log = refutes.2 in
     derives_not shown.0 (subst (Derives shown.0) (no_entries log e) shown.2)
 no_entry index goals status fine (answer_undecided ends e past) = let h : 110 ≡ 117 = ap head_of e in omega (arith, h)
 
@@ -158,7 +175,7 @@ broken_done : (l : ReportLine) (lines : List ReportLine) → is_broken l ≡ tru
 broken_done l lines e = ap (λ b. cond (b || list_any is_broken lines) 1 (cond (list_any (λ m. not (is_broken m)) (l ∷ lines)) 8 0)) e
 
 -- no goal that is printed
-meets_none : (index : ComparedIndex) → CanMeet index []
+pub meets_none : (index : ComparedIndex) → CanMeet index []
 meets_none index = (
   (λ n. false),
   record {
@@ -175,24 +192,24 @@ goal_first true word rest = refl
 goal_first false word rest = refl
 
 no_goal : (index : ComparedIndex) (goals : List Text) (status : ℕ) → ¬ (IsFaithfulExplanation index goals status (printed_core index.stanzas [] (Some [])))
-no_goal index goals status (told_yes ends e within met) = let h : 101 ≡ 121 = ap head_of e in omega (arith, h)
-no_goal index goals status (told_core ends told clashes e within core reasons) = go told e core.impossible
+no_goal index goals status (yes_printed ends e within met) = let h : 101 ≡ 121 = ap head_of e in omega (arith, h)
+no_goal index goals status (core_printed ends kept clashes e within core conflicts) = go kept e core.impossible
   where
-    go : (told : List ToldGoal) → printed_core index.stanzas [] (Some []) ≡ printed_core index.stanzas told clashes → ¬ (CanMeet index (told_words told)) → ⊥
+    go : (kept : List PrintedGoal) → printed_core index.stanzas [] (Some []) ≡ printed_core index.stanzas kept clashes → ¬ (CanMeet index (kept_words kept)) → ⊥
     go [] e none = none (meets_none index)
-    go (t ∷ told) e none = let h : 101 ≡ 103 = ap head_of e ∙ first t told in omega (arith, h)
+    go (g ∷ kept) e none = let h : 101 ≡ 103 = ap head_of e ∙ first g kept in omega (arith, h)
       where
-        first : (t : ToldGoal) (told : List ToldGoal) → head_of (printed_core index.stanzas (t ∷ told) clashes) ≡ 103
-        first t told = by t.undecided
+        first : (g : PrintedGoal) (kept : List PrintedGoal) → head_of (printed_core index.stanzas (g ∷ kept) clashes) ≡ 103
+        first g kept = by g.undecided
           where
-            by : (b : Bool) → head_of (printed_core index.stanzas (record { word = t.word; undecided = b } ∷ told) clashes) ≡ 103
+            by : (b : Bool) → head_of (printed_core index.stanzas (record { word = g.word; undecided = b } ∷ kept) clashes) ≡ 103
             by true = refl
             by false = refl
-no_goal index goals status (told_undecided ends e past) = let h : 101 ≡ 117 = ap head_of e in omega (arith, h)
+no_goal index goals status (undecided_printed ends e past) = let h : 101 ≡ 117 = ap head_of e in omega (arith, h)
 
 -- a machine that does not stand together
 well : (index : ComparedIndex) (file printed : Text) (k : IsFaithfulSystem index file 0 printed) → HealthyStanzas k.home k.own (all_stanzas k.own)
-well index file printed k = by k.state k.stands k.ends
+well index file printed k = by k.state k.state_is k.status_is
   where
     by : (state : OwnState) → IsOwnState k.home k.own state → 0 ≡ system_status state k.answer → HealthyStanzas k.home k.own (all_stanzas k.own)
     by Healthy h e = h
@@ -210,13 +227,14 @@ taken_sound old new name lines k =
 pub wrong_reports : WrongReports
 wrong_reports = record {
   stranger = stranger;
+  two_alike = two_alike;
   no_package = empty_is_wrong;
   no_for_a_package = no_is_wrong;
   no_entry = no_entry;
   no_entry_of_classes = stored_no_entry;
   line_twice = line_twice;
-  broken_is_told = broken_done;
+  broken_lines_end_with_1 = broken_done;
   no_goal = no_goal;
-  well = λ index file printed k. (k.home, k.own, k.says, well index file printed k);
+  well = λ index file printed k. (k.home, k.own, k.own_say, well index file printed k);
   taken = taken_sound;
 }

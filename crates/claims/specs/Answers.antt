@@ -15,7 +15,7 @@ printed_installation stanzas set =
 abbrev pub printed_classes : List ℕ → Text
 printed_classes classes = with_feed (codes "yes") ++ flat_map (λ k. with_feed (codes "class" ++ behind_space k)) classes
 
--- an entry of a log: its classes, each behind `+` or, where it is not there, `-`
+-- an entry of a log: its classes, each after `+`, or after `-` if it is not there
 abbrev pub printed_entry : List Literal → Text
 printed_entry entry = with_feed (codes "log" ++ flat_map (λ l. (if l.positive then codes " +" else codes " -") ++ decimal l.class) entry)
 

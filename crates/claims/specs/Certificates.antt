@@ -1,4 +1,4 @@
--- What shows that goals cannot be met in a kernel text, and that a search for them is too long: said of the text and the words of the goals alone.
+-- What shows that goals cannot be met in a kernel text, and that a search for them is too long. It is said of the text and the words of the goals.
 use Rattle.std.specs.{Prelude.{◌≡◌, ℕ, ◌<◌, Bool, ◌↔◌, List, []}, List.{AllZip}}
 use Rattle.coinst_words.specs.Usage.{Text}
 use Rattle.kernel_text.specs.{KernelReads.{KernelReads}, declared.member.Member.{Member}}
@@ -11,8 +11,8 @@ use Rattle.claims.specs.{Goals.{NamesPackage}, Search.{Searched}}
 abbrev pub AreClassesFor : List Member → Text → List ℕ → Type 0
 AreClassesFor members goal classes = Ascending classes × ((k : ℕ) → In k classes ↔ ((m : Member) × In m members × (m.class ≡ k) × NamesPackage goal m.name m.version))
 
--- What goals and a kernel text ask together, as sentences of signed classes: for each goal that one of its classes is there, and then what
--- the needs and conflicts of the kernel say.
+-- What goals and a kernel text ask together, as sentences of signed classes. For each goal one of its classes is to be there; and then come the needs
+-- and conflicts of the kernel.
 pub record AreAsked (kernel : Text) (goals : List Text) (formula : List (List Literal)) : Type 0 where
   pub format : ℕ
   pub repository : Repository

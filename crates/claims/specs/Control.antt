@@ -10,7 +10,7 @@ use Rattle.coinst_words.specs.Usage.{Text}
 unfoldable pub stanza_groups : Text → List (List Text)
 stanza_groups text = filter (λ group. nat_lt 0 (length group)) (slice_split is_blank (slice_split is_line_feed text))
 
--- the fields of a group: each line that does not go on with another, and behind it those that go on with it
+-- the fields of a group: each line that does not go on with another, and after it those that go on with it
 abbrev pub fields : List Text → List Text
 fields [] = []
 fields (line ∷ more) = if is_continuation line then fields more else (line ++ continued more) ∷ fields more
@@ -19,7 +19,7 @@ fields (line ∷ more) = if is_continuation line then fields more else (line ++ 
 abbrev pub name_key : Text → Text
 name_key field = lowered (name_of field)
 
--- the value of the field of a name, where the group has one: what stands behind the colon, without white space at its ends
+-- the value of the field of a name, if the group has one: what stands after the colon, without white space at its ends
 abbrev pub field_value : Text → List Text → Option Text
 field_value key group = option_map (λ field. trim_both (behind_colon field)) (find (λ field. bytes_eq (name_key field) key) (fields group))
 
@@ -28,7 +28,7 @@ abbrev pub AreDistinct : List Text → Type 0
 AreDistinct [] = Unit {0}
 AreDistinct (t ∷ ts) = ((u : Text) → In u ts → t ≢ u) × AreDistinct ts
 
--- a group is a stanza: it begins with a field, each field has a name and a colon behind it, and no two have one name. A colon in a
+-- a group is a stanza: it begins with a field, each field has a name and a colon after it, and no two have one name. A colon in a
 -- continuation line does not help, since the name would have a line feed
 pub record IsStanza (group : List Text) : Type 0 where
   pub first : is_continuation (slice_index_or group 0 []) ≡ false

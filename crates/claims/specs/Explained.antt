@@ -1,55 +1,79 @@
 -- What an explanation prints, and what its goals and conflicts are.
-use Rattle.std.specs.{Prelude.{◌≡◌, ℕ, ◌<◌, Bool, true, false, List, ◌∷◌, ◌++◌, codes, length, map, Option, Some, None, if◌then◌else◌}, Fmt.{decimal}}
-use Rattle.std.specs.List.{flat_map}
+use Rattle.std.specs.Prelude.{◌≡◌, ◌↔◌, ℕ, ◌<◌, Bool, true, false, List, [], ◌∷◌, ◌++◌, codes, length, map, Option, Some, None, IfSome, if◌then◌else◌}
+use Rattle.std.specs.{Fmt.{decimal}, List.{AllZip, flat_map}}
 use Rattle.coinst_words.specs.Usage.{Text}
-use Rattle.explain_core.specs.{declared.explanation.Clash.{Clash}, OnStanzas.{HealthyButFor}}
+use Rattle.explain_core.specs.{declared.explanation.Clash.{Clash}, OnStanzas.{HealthyButFor}, Only.{only, pair}, Reasons.{conflicts_reached}}
 use Rattle.kernel_text.specs.KernelLines.{with_feed}
-use Rattle.listed.specs.Lists.{In}
+use Rattle.listed.specs.Lists.{Ascending, In}
 use Rattle.relation_fields.specs.declared.packages.PackageFacts.{PackageFacts}
-use Rattle.repo_model.specs.{Repository.{in_conflict}, Stanzas.{stanza_at}}
-use Rattle.row_book.specs.Sets.{NumSet}
-use Rattle.claims.specs.{Asked.{ComparedIndex}, Goals.{CanMeet, HasEach}}
+use Rattle.repo_model.specs.{Repository.{in_conflict, suite_repository}, Stanzas.{stanza_at}}
+use Rattle.row_book.specs.{Sets.{NumSet}, declared.pair.Pair.{Pair}}
+use Rattle.search_terms.specs.Form.{form}
+use Rattle.claims.specs.{Asked.{ComparedIndex}, Goals.{CanMeet, HasEach, NamesPackage}, Search.{Searched}, Settled.{IsPastBudget}}
 
--- a goal that is told, and whether it is open if it matters
-pub record ToldGoal : Type 0 where
+-- a goal that is printed, and whether it is open if it matters
+pub record PrintedGoal : Type 0 where
   pub word : Text
   pub undecided : Bool
 
-abbrev pub told_words : List ToldGoal → List Text
-told_words told = map (λ t. t.word) told
+abbrev pub kept_words : List PrintedGoal → List Text
+kept_words kept = map (λ g. g.word) kept
 
 abbrev pub printed_package : PackageFacts → Text
 printed_package s = s.name ++ codes " " ++ s.version
 
--- the conflicts that are told, each by its two packages; or that they are open as a whole
+-- the conflicts, each by its two packages; or that they are open as a whole
 abbrev pub printed_clashes : List PackageFacts → Option (List Clash) → Text
 printed_clashes stanzas None = with_feed (codes "clashes-open")
 printed_clashes stanzas (Some clashes) =
     flat_map (λ c. with_feed ((if c.unsettled then codes "clash-open" else codes "clash") ++ codes " " ++ printed_package (stanza_at stanzas c.first) ++ codes " " ++ printed_package (stanza_at stanzas c.second))) clashes
 
-abbrev pub clashes_told : Option (List Clash) → ℕ
-clashes_told None = 0
-clashes_told (Some clashes) = length clashes
+abbrev pub clashes_printed : Option (List Clash) → ℕ
+clashes_printed None = 0
+clashes_printed (Some clashes) = length clashes
 
 -- the goals, the conflicts, and the number of each
-abbrev pub printed_core : List PackageFacts → List ToldGoal → Option (List Clash) → Text
-printed_core stanzas told clashes =
-    flat_map (λ t. with_feed ((if t.undecided then codes "goal-open " else codes "goal ") ++ t.word)) told ++ printed_clashes stanzas clashes
-    ++ with_feed (codes "end " ++ decimal (length told) ++ codes " " ++ decimal (clashes_told clashes))
+abbrev pub printed_core : List PackageFacts → List PrintedGoal → Option (List Clash) → Text
+printed_core stanzas kept clashes =
+    flat_map (λ g. with_feed ((if g.undecided then codes "goal-open " else codes "goal ") ++ g.word)) kept ++ printed_clashes stanzas clashes
+    ++ with_feed (codes "end " ++ decimal (length kept) ++ codes " " ++ decimal (clashes_printed clashes))
 
--- The goals that are told are among those that were asked. They cannot be met, and without any one of them that is not open the others can.
-pub record IsCoreOfGoals (s : ComparedIndex) (goals : List Text) (told : List ToldGoal) : Type 0 where
-  pub asked : (goal : Text) → In goal (told_words told) → In goal goals
-  pub impossible : ¬ (CanMeet s (told_words told))
-  pub needed : (before after : List ToldGoal) (t : ToldGoal) → told ≡ before ++ t ∷ after → t.undecided ≡ false → CanMeet s (told_words (before ++ after))
+-- Some items are kept, and the others left out, one after another. The others of an item are those before it that are kept, and all those after it.
+-- An item that is kept is open exactly if the search for the others is too long; and if it is left out, that search is not.
+pub data AreKept {X Y : Type 0} (item : Y → X) (is_open : Y → Bool) (IsLong : List X → Type 0) : List X → List X → List Y → Type 0 where
+  none : {before : List X} → AreKept item is_open IsLong before [] []
+  left_out : {before after : List X} {x : X} {kept : List Y} → ¬ (IsLong (before ++ after)) → AreKept item is_open IsLong before after kept → AreKept item is_open IsLong before (x ∷ after) kept
+  stays : {before after : List X} {y : Y} {kept : List Y} → ((is_open y ≡ true) ↔ IsLong (before ++ after)) → AreKept item is_open IsLong (before ++ item y ∷ []) after kept → AreKept item is_open IsLong before (item y ∷ after) (y ∷ kept)
+
+-- The printed goals are kept of those that were asked. They cannot be met, and without any one of them that is not open the others can.
+pub record IsCoreOfGoals (s : ComparedIndex) (goals : List Text) (kept : List PrintedGoal) : Type 0 where
+  pub asked : AreKept (λ g. g.word) (λ g. g.undecided) (IsPastBudget s) [] goals kept
+  pub impossible : ¬ (CanMeet s (kept_words kept))
+  pub needed : (before after : List PrintedGoal) (g : PrintedGoal) → kept ≡ before ++ g ∷ after → g.undecided ≡ false → CanMeet s (kept_words (before ++ after))
+
+-- the numbers of the packages that a goal names, ascending
+abbrev pub ArePackagesFor : List PackageFacts → Text → List ℕ → Type 0
+ArePackagesFor stanzas goal ns = Ascending ns × ((n : ℕ) → In n ns ↔ ((n < length stanzas) × NamesPackage goal (stanza_at stanzas n).name (stanza_at stanzas n).version))
+
+-- if only these pairs were in conflict, more leaves than the budget would fail in the search for packages, one of each of these lists
+abbrev pub IsTooLongWith : ComparedIndex → List (List ℕ) → List Pair → Type 0
+IsTooLongWith s wanted pairs = (found : Bool) × (leaves : ℕ) × Searched (form (only (suite_repository s.home s.stanzas) pairs) wanted) [] found leaves × (s.budget < leaves)
 
 -- the goals could be met if only these pairs were in conflict
 abbrev pub CouldMeet : ComparedIndex → List Clash → List Text → Type 0
 CouldMeet s clashes goals = (whole : NumSet) × HealthyButFor s.home s.stanzas clashes whole × HasEach s.stanzas whole goals
 
 -- Each pair is of two packages in conflict. If only these were in conflict, the goals could not be met; if only the others than any one of
--- them that is not open, they could.
-pub record AreReasonsFor (s : ComparedIndex) (goals : List Text) (clashes : List Clash) : Type 0 where
+-- them that is not open, they could. They are kept of all conflicts within reach of the packages that the goals name.
+pub record AreReasonsFor (s : ComparedIndex) (goals : List Text) (wanted : List (List ℕ)) (clashes : List Clash) : Type 0 where
   pub conflicts : (c : Clash) → In c clashes → (c.first < c.second) × (c.second < length s.stanzas) × (in_conflict s.home s.stanzas c.first c.second ≡ true)
   pub enough : ¬ (CouldMeet s clashes goals)
   pub needed : (before after : List Clash) (c : Clash) → clashes ≡ before ++ c ∷ after → c.unsettled ≡ false → CouldMeet s (before ++ after) goals
+  pub kept : AreKept (λ c. pair c.first c.second) (λ c. c.unsettled) (IsTooLongWith s wanted) [] (conflicts_reached (suite_repository s.home s.stanzas) wanted) clashes
+
+-- The conflicts are open as a whole exactly if the search with all those within reach is too long; and else they are reasons.
+pub record AreConflictsFor (s : ComparedIndex) (goals : List Text) (clashes : Option (List Clash)) : Type 0 where
+  pub wanted : List (List ℕ)
+  pub named : AllZip (ArePackagesFor s.stanzas) goals wanted
+  pub whole : (clashes ≡ None) ↔ IsTooLongWith s wanted (conflicts_reached (suite_repository s.home s.stanzas) wanted)
+  pub reasons : IfSome clashes (AreReasonsFor s goals wanted)

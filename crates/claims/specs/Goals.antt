@@ -1,5 +1,5 @@
 -- Goals: the words by which a question names packages.
-use Rattle.std.specs.{Prelude.{◌≡◌, ℕ, true, ◌⊎◌, List, ◌∷◌, ◌++◌}, Ordering.{is_eq}}
+use Rattle.std.specs.{Prelude.{◌≡◌, ℕ, true, ◌⊎◌, List, ◌∷◌, ◌++◌, length, nat_lt}, Ordering.{is_eq}}
 use Rattle.coinst_words.specs.Usage.{Text}
 use Rattle.deb_version.specs.{Grammar.{is_version}, Order.{version_order}}
 use Rattle.listed.specs.Lists.{In}
@@ -15,6 +15,10 @@ NamesPackage goal name version = (goal ≡ name) ⊎ ((wanted : Text) × (goal �
 -- the set has a package for each goal
 abbrev pub HasEach : List PackageFacts → NumSet → List Text → Type 0
 HasEach stanzas set goals = (goal : Text) → In goal goals → (n : ℕ) × Is set n × NamesPackage goal (stanza_at stanzas n).name (stanza_at stanzas n).version
+
+-- all packages of a list
+abbrev pub all_stanzas : List PackageFacts → NumSet
+all_stanzas stanzas n = nat_lt n (length stanzas)
 
 -- some healthy set of packages has one for each goal
 abbrev pub CanMeet : ComparedIndex → List Text → Type 0

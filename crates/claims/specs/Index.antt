@@ -20,8 +20,8 @@ is_one_package name version other_name other_version = bytes_eq name other_name 
 abbrev pub FitsHome : Home → Text → Type 0
 FitsHome home architecture = (architecture ≡ codes "all") ⊎ ((home.name ≡ Some architecture) × (is_architecture architecture ≡ true))
 
--- the group is a stanza that says this of its package, but for the number of its line and whether it has an architecture
--- other than `all`; where it names no architecture, that is `all`
+-- The group is a stanza that says this of its package, but for the number of its line and whether it has an architecture other than `all`. If it
+-- names no architecture, that is `all`.
 pub record Says (home : Home) (group : List Text) (facts : PackageFacts) : Type 0 where
   pub stanza : IsStanza group
   pub name : (field_value (codes "package") group ≡ Some facts.name) × (is_name facts.name ≡ true)

@@ -2,8 +2,8 @@
 use Rattle.std.specs.Prelude.{◌≡◌, ◌≢◌, ℕ, Bool, List, map, Some}
 use Rattle.row_book.specs.{Flattening.{flat, Passed, passes}, Merging.{image}, Repository.{Repository}, Rounds.{round}, Sets.{NumSet}}
 
--- the first of the repository, its round, the round of that, and so on, that a round leaves as it is; and what becomes of sets of packages
--- on the way: the classes that have a member of them
+-- The first of the repository, its round, the round of that, and so on, that a round leaves as it is. What becomes of sets of packages on the way: the
+-- classes that have a member of them.
 pub data SettlesTo (limit : ℕ) (hold : Bool) : Repository → List NumSet → Repository → List NumSet → Type 0 where
   at_rest : {R : Repository} {sets : List NumSet} → round limit hold R ≡ R → SettlesTo limit hold R sets R sets
   after : {R K : Repository} {sets images : List NumSet} → round limit hold R ≢ R → SettlesTo limit hold (round limit hold R) (map (image (flat limit hold R)) sets) K images → SettlesTo limit hold R sets K images

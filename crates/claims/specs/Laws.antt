@@ -6,10 +6,10 @@ use Rattle.relation_fields.specs.{Grammar.{atom_of, alternatives_of, provide_of}
 use Rattle.relation_fields.specs.declared.packages.PackageFacts.{PackageFacts}
 use Rattle.repo_model.specs.{Limits.{most_packages}, Facts.{facts_of}, Repository.{suite_repository}, FirstFault.{first_fault, home_of, stanzas_of}}
 use Rattle.repo_model.specs.Stanzas.{stanza_at, CoinstStanzas, HealthyStanzas}
-use Rattle.claims.specs.{Answers.{printed_installation, printed_no}, Control.{stanza_groups}, Explained.{printed_core}, Plans.{IsMix}}
-use Rattle.claims.specs.{Systems.{all_stanzas, is_own_group}, Index.{GroupsSay, IndexSays, SaysTheSame}, Kernel.{SettlesTo}}
-use Rattle.claims.specs.{Classes.{classes_of, IsItsClass, IsOneOf}, Settled.{IsKernelText}, Words.{compare_words, kernel_words}}
-use Rattle.claims.specs.{Asked.{ComparedIndex, FoundInstallable, FoundUninstallable, IsAsked}, Printed.{comparison_status, names_of, printed_comparison}}
+use Rattle.claims.specs.{Answers.{printed_installation, printed_no}, Control.{stanza_groups}, Explained.{printed_core}, Plans.{IsMix}, Systems.{is_own_group}}
+use Rattle.claims.specs.{Goals.{all_stanzas}, Index.{GroupsSay, IndexSays, SaysTheSame}, Kernel.{SettlesTo}, Classes.{classes_of, IsItsClass, IsOneOf}}
+use Rattle.claims.specs.{Settled.{IsKernelText}, Words.{compare_words, kernel_words}, Asked.{ComparedIndex}}
+use Rattle.claims.specs.{Compared.{FoundInstallable, FoundUninstallable, IsAsked}, Printed.{comparison_status, names_of, printed_comparison}}
 use Rattle.claims.specs.Sentences.{IsFaithfulAnswer, IsFaithfulExplanation, IsFaithfulKernel, IsFaithfulList, IsFaithfulPlan, IsFaithfulStoredAnswer, IsFaithfulSystem}
 use Rattle.claims.specs.{Search.{Searched}, Spelling.{WritesAtom, WritesAlternatives, WritesProvide}}
 use Rattle.listed.specs.Lists.{In}
@@ -27,7 +27,7 @@ pub record SpellingsAreRead : Type 0 where
   pub alternatives : Reads alternatives_of WritesAlternatives
   pub provides : Reads provide_of WritesProvide
 
--- a tree tells how its search ends
+-- a tree shows how its search ends
 abbrev pub TreesAreSearches : Type 0
 TreesAreSearches = (classes : ℕ) (formula : List (List Literal)) (tree : Tree) → IsTree classes formula [] tree → Searched formula [] (is_some (found_of tree)) (failed_leaves tree)
 
@@ -56,8 +56,8 @@ abbrev pub KernelsAreOne : Type 0
 KernelsAreOne = (limit : ℕ) (hold : Bool) (R : Repository) (sets : List NumSet) (K L : Repository) (images others : List NumSet) → SettlesTo limit hold R sets K images → SettlesTo limit hold R sets L others
     → (K ≡ L) × (images ≡ others)
 
--- What is kept of a printed kernel is the first sentence: a text without a fault, and bytes that read, by the grammar of lines, for classes
--- in one of which each stanza stands, and which can be together exactly where the stanzas can.
+-- What is kept of a printed kernel is the first sentence: a text without a fault, and bytes that read for classes. Each stanza stands in one of
+-- these, and they can be together exactly if the stanzas can.
 abbrev pub KernelsMeanThis : Type 0
 KernelsMeanThis = (text printed : Text) (format : ℕ) (R : Repository) (members : List Member) (held : List ℕ) → first_fault text ≡ None → KernelReads printed format R members held
     → ((m : Member) → In m members → IsOneOf (map facts_of (stanzas_of text)) m)
@@ -85,7 +85,11 @@ PrintedKernelsAreFaithful = (text : Text) (limit : ℕ) (hold : Bool) → first_
 abbrev pub KernelTextsAreThere : Type 0
 KernelTextsAreThere = (index : SearchedIndex) → first_fault index.text ≡ None → IsKernelText (suite_of index) (kernel_printed index.limit index.hold (home_in index.text) (packages_in index.text))
 
--- the words of a kernel ask for it, where they ask for anything: a path that looks like an option is refused, and so is 0
+-- and it is the only one
+abbrev pub KernelTextsAreOne : Type 0
+KernelTextsAreOne = (index : ComparedIndex) (first second : Text) → IsKernelText index first → IsKernelText index second → first ≡ second
+
+-- the words of a kernel ask for it, if they ask for anything: a path that looks like an option is refused, and so is 0
 abbrev pub KernelWordsAsk : Type 0
 KernelWordsAsk = (limit : Option ℕ) (hold : Bool) (path : Text) (job : Job) → unwrap_or limit 65536 ≤ 1000000 → job_of (kernel_words limit hold path) ≡ Some job → job ≡ Kernel path false (unwrap_or limit 65536) hold
 
@@ -101,8 +105,7 @@ pub record WordsAreTaken : Type 0 where
   pub compare : job_of (compare_words None None false (codes "old") (codes "new")) ≡ Some (Compare (codes "old") (codes "new") 10000 65536 false)
   pub compare_with_options : job_of (compare_words (Some 500) (Some 4096) true (codes "old") (codes "new")) ≡ Some (Compare (codes "old") (codes "new") 500 4096 true)
 
--- What is kept of a comparison is the second sentence: two texts without a fault, and the text of a list that lists exactly what is broken and
--- what is open.
+-- What is kept of a comparison is its sentence: two texts without a fault, and a list of exactly what is broken and what is open.
 abbrev pub ComparisonsMeanThis : Type 0
 ComparisonsMeanThis = (old new : SearchedIndex) (lines : List ReportLine) → first_fault old.text ≡ None → first_fault new.text ≡ None → ListsExactly old new lines → IsFaithfulList (suite_of old) (suite_of new) lines
 
@@ -130,21 +133,45 @@ pub record EmptyIndexes : Type 0 where
   pub printed : printed_comparison [] ≡ no_lines
   pub wrong : ¬ (IsFaithfulKernel a_package no_classes)
 
+-- a repository without classes, a yes and nothing else, and a report on a machine without packages
+abbrev pub no_repository : Repository
+no_repository = record { clauses = []; conflicts = [] }
+
+abbrev pub only_yes : Text
+only_yes = codes "yes" ++ 10 ∷ []
+
+abbrev pub no_packages : Text
+no_packages = codes "foreign 0" ++ 10 ∷ (codes "self healthy" ++ 10 ∷ (codes "suite yes" ++ 10 ∷ (codes "end 0 0" ++ 10 ∷ [])))
+
+-- Reports on an empty index of which the other sentences are true: its kernel text, which is settled; and a yes to no goals, also of that text. An explanation of no goals; a report on a machine without packages; and a plan without names.
+pub record TrueReports : Type 0 where
+  pub settled : IsKernelText empty_index no_classes
+  pub answer : IsFaithfulAnswer empty_index [] 0 only_yes
+  pub answer_of_classes : IsFaithfulStoredAnswer no_classes no_repository [] [] 10000 0 only_yes
+  pub explanation : IsFaithfulExplanation empty_index [] 0 only_yes
+  pub system : IsFaithfulSystem empty_index [] 0 no_packages
+  pub plan : IsFaithfulPlan empty_index empty_index []
+
 -- a kernel of one class with one package
 abbrev pub a_class : Text
 a_class = codes "coinst-kernel 1" ++ 10 ∷ (codes "class 0" ++ 10 ∷ (codes "member a 1" ++ 10 ∷ (codes "end 1 1" ++ 10 ∷ [])))
 
--- Reports of which the sentences are not true: of an empty index a kernel with a package; a yes without a package for a goal; a no for the one package
--- of an index; a no whose log lacks its last entry; a list with a line twice, or of a broken line with status 0; an explanation with no goal; a
--- machine with status 0 that is not healthy; a plan that takes a name although it breaks something.
+-- a kernel of two classes that are alike
+abbrev pub two_classes : Text
+two_classes = codes "coinst-kernel 1" ++ 10 ∷ (codes "class 0" ++ 10 ∷ (codes "member a 1" ++ 10 ∷ (codes "class 1" ++ 10 ∷ (codes "member b 1" ++ 10 ∷ (codes "end 2 2" ++ 10 ∷ [])))))
+
+-- Reports of which the sentences are not true: of an empty index a kernel with a package; and a kernel that is not settled. A yes without a package for
+-- a goal; a no for the one package of an index; a no without a log. A list with a line twice; an explanation without a goal. A broken line ends with
+-- status 1, a machine with status 0 is healthy, and a name that is taken breaks nothing.
 pub record WrongReports : Type 0 where
   pub stranger : ¬ (IsFaithfulKernel [] a_class)
+  pub two_alike : (index : ComparedIndex) → ¬ (IsKernelText index two_classes)
   pub no_package : (index : ComparedIndex) (status : ℕ) → ¬ (IsFaithfulAnswer index (codes "a" ∷ []) status (printed_installation index.stanzas []))
   pub no_for_a_package : (index : ComparedIndex) (log : List (List Literal)) (status : ℕ) → GroupsSay (stanza_groups a_package) index.home index.stanzas → ¬ (IsFaithfulAnswer index (codes "a" ∷ []) status (printed_no log))
   pub no_entry : (index : SearchedIndex) (goals : List Text) (status : ℕ) → first_fault index.text ≡ None → ¬ (IsFaithfulAnswer (suite_of index) goals status (printed_no []))
   pub no_entry_of_classes : (kernel : Text) (R : Repository) (members : List Member) (goals : List Text) (budget status : ℕ) → ¬ (IsFaithfulStoredAnswer kernel R members goals budget status (printed_no []))
   pub line_twice : (old new : ComparedIndex) (l : ReportLine) → ¬ (IsFaithfulList old new (l ∷ l ∷ []))
-  pub broken_is_told : (l : ReportLine) (lines : List ReportLine) → is_broken l ≡ true → comparison_status (l ∷ lines) ≡ 1
+  pub broken_lines_end_with_1 : (l : ReportLine) (lines : List ReportLine) → is_broken l ≡ true → comparison_status (l ∷ lines) ≡ 1
   pub no_goal : (index : ComparedIndex) (goals : List Text) (status : ℕ) → ¬ (IsFaithfulExplanation index goals status (printed_core index.stanzas [] (Some [])))
   pub well : (index : ComparedIndex) (file printed : Text) → IsFaithfulSystem index file 0 printed →
       (home : Home) × (own : List PackageFacts) × GroupsSay (filter (is_own_group index.home) (stanza_groups file)) home own × HealthyStanzas home own (all_stanzas own)

@@ -15,5 +15,6 @@ pub mod Explained
 pub mod Plans
 pub mod Systems
 pub mod Settled
+pub mod Compared
 pub mod Sentences
 pub mod Laws

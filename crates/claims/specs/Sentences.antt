@@ -1,7 +1,7 @@
 -- The sentences for which all else is there: what each command prints means. Begin here, and look up each word where the line of its
--- `use` says. Each is said of the words of a run, of what it read (each file by its path, with its text, in the order of reading), of its exit
--- status and of the bytes that it printed. That a report came, and no refusal, is said by the clause `runs` of `run`, and not here.
-use Rattle.std.specs.Prelude.{◌≡◌, ℕ, ◌≤◌, ◌⊎◌, ◌↔◌, ◌≢◌, count_by, filter, map, Bool, true, false, List, [], ◌∷◌, ◌++◌, length, nat_lt, codes, Option, Some, None, unwrap_or, IfSome, ◌<◌}
+-- `use` says. Each is said of the words of a run, of what it read, of its exit status and of the bytes that it printed. What it read is each file by
+-- its path, with its text, in the order of reading. That a report came, and no refusal, is said by the clause `runs` of `run`, and not here.
+use Rattle.std.specs.Prelude.{◌≡◌, ℕ, ◌≤◌, ◌⊎◌, ◌↔◌, ◌≢◌, count_by, filter, map, Bool, true, false, List, [], ◌∷◌, ◌++◌, length, nat_lt, codes, Option, None, unwrap_or, ◌<◌}
 use Rattle.std.specs.Fmt.{decimal}
 use Rattle.byte_flow.specs.History.{OpenedFile}
 use Rattle.clause_pool.specs.Lists.{InOrder}
@@ -18,12 +18,12 @@ use Rattle.row_book.specs.{Repository.{Repository, Coinst, Healthy}, Sets.{NumSe
 use Rattle.search_terms.specs.declared.literals.Literal.{Literal}
 use Rattle.status_check.specs.declared.report.OwnState.{OwnState}
 use Rattle.suite_compare.specs.declared.report.ReportLine.{ReportLine}
-use Rattle.claims.specs.Answers.{printed_classes, printed_installation, printed_no, printed_undecided}
-use Rattle.claims.specs.Asked.{ComparedIndex, FoundInstallable, FoundUninstallable, HasPackageOf, Installs, IsAsked, IsSearched, Spends}
-use Rattle.claims.specs.{Certificates.{HasClassOfEach, IsTooLong, Refutes}, Classes.{classes_of, IsItsClass, IsOneOf}, Control.{IsStanza, stanza_groups}}
-use Rattle.claims.specs.{Explained.{AreReasonsFor, IsCoreOfGoals, ToldGoal, printed_core, told_words}, Goals.{CanMeet, HasEach}, Index.{GroupsSay, IndexSays}}
-use Rattle.claims.specs.{Kernel.{PassesOnTheWay}, Plans.{Differs, IsMix, plan_status, printed_plan}}
-use Rattle.claims.specs.{Printed.{comparison_status, names_of, printed_comparison, Precedes}, Settled.{IsKernelText, IsPastBudget, IsWithinBudget}}
+use Rattle.claims.specs.{Answers.{printed_classes, printed_installation, printed_no, printed_undecided}, Asked.{ComparedIndex, HasPackageOf, IsSearched}}
+use Rattle.claims.specs.{Compared.{FoundInstallable, FoundUninstallable, IsAsked}, Certificates.{HasClassOfEach, IsTooLong, Refutes}}
+use Rattle.claims.specs.{Classes.{classes_of, IsItsClass, IsOneOf}, Control.{IsStanza, stanza_groups}}
+use Rattle.claims.specs.{Explained.{AreConflictsFor, IsCoreOfGoals, PrintedGoal, printed_core, kept_words}, Goals.{CanMeet, HasEach, all_stanzas}}
+use Rattle.claims.specs.{Index.{GroupsSay, IndexSays}, Kernel.{PassesOnTheWay}, Plans.{Differs, IsMix, plan_status, printed_plan}}
+use Rattle.claims.specs.{Printed.{comparison_status, names_of, printed_comparison, Precedes}, Settled.{IsKernelText, IsPastBudget}}
 use Rattle.claims.specs.Systems.{IsOwnState, goal_word_of, has_package, is_foreign_group, is_own_group, printed_system, system_status}
 use Rattle.claims.specs.Words.{AreOrdinary, asking_words, compare_words, kernel_words, stored_words}
 
@@ -39,10 +39,10 @@ pub record IsFaithfulKernel (text printed : Text) : Type 0 where
   pub members : List Member
   pub held : List ℕ
   pub reads : KernelReads printed format repository members held
-  pub once : HasOneReading printed
-  pub people : (m : Member) → In m members → IsOneOf stanzas m
-  pub stands : (i : ℕ) → i < length stanzas → (k : ℕ) × IsItsClass (length repository.clauses) members (stanza_at stanzas i) k
-  pub keeps : (S : NumSet) → ((n : ℕ) → Is S n → n < length stanzas) → (CoinstStanzas home stanzas S ↔ Coinst repository (classes_of stanzas members S))
+  pub no_other_reading : HasOneReading printed
+  pub members_are_packages : (m : Member) → In m members → IsOneOf stanzas m
+  pub each_in_one_class : (i : ℕ) → i < length stanzas → (k : ℕ) × IsItsClass (length repository.clauses) members (stanza_at stanzas i) k
+  pub same_together : (S : NumSet) → ((n : ℕ) → Is S n → n < length stanzas) → (CoinstStanzas home stanzas S ↔ Coinst repository (classes_of stanzas members S))
 
 -- What a run prints for `kernel`, with its options in the order of `kernel_words`, is a faithful kernel of the file that it read, with status 0. A
 -- number that is not given is the default; `run` refuses 0 and numbers above a million. The clause `meaning` of `run` speaks of all other
@@ -57,12 +57,12 @@ KernelIsSettled words readings status printed = (limit : Option ℕ) (hold : Boo
     (index : ComparedIndex) × (readings ≡ (path, index.text) ∷ []) × (status ≡ 0) × IsSearched None limit hold index × IsKernelText index printed
 
 -- `query`. Yes, status 0: the printed packages are a healthy set that has one for each goal. No, status 1: no healthy set has, and the printed log
--- refutes the goals in the text that `kernel` prints of the index. Undecided, status 8, exactly if the search for the goals in that text is longer
+-- refutes the goals in the kernel text of the index. Undecided, status 8, exactly if the search for the goals in that text is longer
 -- than the budget.
 pub data IsFaithfulAnswer (index : ComparedIndex) (goals : List Text) (status : ℕ) (printed : Text) : Type 0 where
-  yes : status ≡ 0 → (set : List ℕ) → printed ≡ printed_installation index.stanzas set → IsWithinBudget index goals → Ascending set → HealthyStanzas index.home index.stanzas (has set) → HasEach index.stanzas (has set) goals →
+  yes : status ≡ 0 → (set : List ℕ) → printed ≡ printed_installation index.stanzas set → ¬ (IsPastBudget index goals) → Ascending set → HealthyStanzas index.home index.stanzas (has set) → HasEach index.stanzas (has set) goals →
       IsFaithfulAnswer index goals status printed
-  no : status ≡ 1 → (log : List (List Literal)) → printed ≡ printed_no log → IsWithinBudget index goals → ¬ (CanMeet index goals) → ((kernel : Text) → IsKernelText index kernel → Refutes kernel goals log) →
+  no : status ≡ 1 → (log : List (List Literal)) → printed ≡ printed_no log → ¬ (IsPastBudget index goals) → ¬ (CanMeet index goals) → ((kernel : Text) × IsKernelText index kernel × Refutes kernel goals log) →
       IsFaithfulAnswer index goals status printed
   undecided : status ≡ 8 → printed ≡ printed_undecided index.budget → IsPastBudget index goals → IsFaithfulAnswer index goals status printed
 
@@ -71,7 +71,7 @@ abbrev pub QueryIsTrue : List Text → List OpenedFile → ℕ → Text → Type
 QueryIsTrue words readings status printed = (budget limit : Option ℕ) (hold : Bool) (path : Text) (goals : List Text) → unwrap_or budget 10000 ≤ 1000000 → unwrap_or limit 65536 ≤ 1000000 → AreOrdinary (path ∷ goals) →
     words ≡ asking_words (codes "query") budget limit hold (path ∷ goals) →
     (index : ComparedIndex) × (readings ≡ (path, index.text) ∷ []) × IndexSays index.text index.home index.stanzas × IsSearched budget limit hold index
-    × HasEach index.stanzas (λ n. nat_lt n (length index.stanzas)) goals × IsFaithfulAnswer index goals status printed
+    × HasEach index.stanzas (all_stanzas index.stanzas) goals × IsFaithfulAnswer index goals status printed
 
 -- `query --kernel`. The text reads as one kernel. Yes, status 0: the printed classes can be together, and have a member for each goal. No, status 1: no
 -- classes do, and the log refutes the goals in the text. Undecided, status 8, exactly if the search for them is longer than the budget. If the text is
@@ -90,30 +90,31 @@ StoredQueryIsTrue words readings status printed = (budget : Option ℕ) (path : 
     (kernel : Text) × (readings ≡ (path, kernel) ∷ []) × HasOneReading kernel × ((format : ℕ) × (repository : Repository) × (members : List Member) × (held : List ℕ) × KernelReads kernel format repository members held
     × HasClassOfEach members (λ k. nat_lt k (length repository.clauses)) goals × IsFaithfulStoredAnswer kernel repository members goals (unwrap_or budget 10000) status printed)
 
--- `compare`. Both texts are indexes. A line says `broken` of exactly those names of both, and of exactly those pairs of such names each of
--- which is found installable alone in the newer one, that are found installable in the older one and found not to be in the newer one. It
--- says `open` of exactly those at which the newer search spends its budget, or finds them not installable and the older search spends its
--- budget. The lines are in order, no two about the same names.
+-- `compare`. Both texts are indexes. It is asked of each name of both, and of each pair of such names that are found installable alone in the newer one.
+-- A line says `broken` of exactly those that are found installable in the older one and found not to be in the newer one. It says `open` of exactly
+-- those at which the newer search spends its budget, or finds them not installable and the older search spends its budget. The lines are in order, no
+-- two about the same names.
 pub record IsFaithfulList (old new : ComparedIndex) (lines : List ReportLine) : Type 0 where
   pub older : IndexSays old.text old.home old.stanzas
   pub newer : IndexSays new.text new.home new.stanzas
   pub broken : (l : ReportLine) → is_broken l ≡ true → (In l lines ↔ (IsAsked old new (names_of l) × FoundInstallable old (names_of l) × FoundUninstallable new (names_of l)))
-  pub undecided : (l : ReportLine) → is_broken l ≡ false → (In l lines ↔ (IsAsked old new (names_of l) × (Spends new (names_of l) ⊎ (FoundUninstallable new (names_of l) × Spends old (names_of l)))))
+  pub undecided : (l : ReportLine) → is_broken l ≡ false → (In l lines ↔ (IsAsked old new (names_of l) × (IsPastBudget new (names_of l) ⊎ (FoundUninstallable new (names_of l) × IsPastBudget old (names_of l)))))
   pub order : (front middle back : List ReportLine) (k l : ReportLine) → lines ≡ front ++ k ∷ (middle ++ l ∷ back) → Precedes (names_of k) (names_of l)
 
--- What a run prints for `compare`, with its options in the order of `compare_words`, is the lines of a faithful list for the two files, and the status is
--- that of these lines: 1 if one is broken, or else 8 if one is open, or else 0.
+-- What a run prints for `compare`, with its options in the order of `compare_words`, is the lines of a faithful list for the two files. The status is that
+-- of these lines: 1 if one is broken, or else 8 if one is open, or else 0.
 abbrev pub CompareIsTrue : List Text → List OpenedFile → ℕ → Text → Type 0
 CompareIsTrue words readings status printed = (budget limit : Option ℕ) (hold : Bool) (first second : Text) → unwrap_or budget 10000 ≤ 1000000 → unwrap_or limit 65536 ≤ 1000000 → words ≡ compare_words budget limit hold first second →
     (old new : ComparedIndex) × (readings ≡ (first, old.text) ∷ (second, new.text) ∷ []) × IsSearched budget limit hold old × IsSearched budget limit hold new
     × ((lines : List ReportLine) × IsFaithfulList old new lines × (printed ≡ printed_comparison lines) × (status ≡ comparison_status lines))
 
--- `explain`. Yes, status 0: the goals can be met. A core, status 1: the goals that are told cannot, and without any one that is not open the others
--- can; and unless the conflicts are open as a whole, those that are told are reasons enough for it. Undecided, status 8, as above.
+-- `explain`. Yes, status 0: the goals can be met. A core, status 1: the printed goals cannot, and without any one that is not open the others can. If
+-- the conflicts are not open as a whole, the printed ones are reasons enough for it. What is open is so exactly if a search for the others is past the
+-- budget. Undecided, status 8, as above.
 pub data IsFaithfulExplanation (index : ComparedIndex) (goals : List Text) (status : ℕ) (printed : Text) : Type 0 where
-  yes : status ≡ 0 → printed ≡ with_feed (codes "yes") → IsWithinBudget index goals → CanMeet index goals → IsFaithfulExplanation index goals status printed
-  core : status ≡ 1 → (told : List ToldGoal) (clashes : Option (List Clash)) → printed ≡ printed_core index.stanzas told clashes → IsWithinBudget index goals → IsCoreOfGoals index goals told →
-      IfSome clashes (AreReasonsFor index (told_words told)) → IsFaithfulExplanation index goals status printed
+  yes : status ≡ 0 → printed ≡ with_feed (codes "yes") → ¬ (IsPastBudget index goals) → CanMeet index goals → IsFaithfulExplanation index goals status printed
+  core : status ≡ 1 → (kept : List PrintedGoal) (clashes : Option (List Clash)) → printed ≡ printed_core index.stanzas kept clashes → ¬ (IsPastBudget index goals) → IsCoreOfGoals index goals kept →
+      AreConflictsFor index (kept_words kept) clashes → IsFaithfulExplanation index goals status printed
   undecided : status ≡ 8 → printed ≡ printed_undecided index.budget → IsPastBudget index goals → IsFaithfulExplanation index goals status printed
 
 -- What a run prints for `explain`, with its options in the order of `asking_words`, is a faithful explanation of its goals, each of which names a package.
@@ -121,29 +122,29 @@ abbrev pub ExplainIsTrue : List Text → List OpenedFile → ℕ → Text → Ty
 ExplainIsTrue words readings status printed = (budget limit : Option ℕ) (hold : Bool) (path : Text) (goals : List Text) → unwrap_or budget 10000 ≤ 1000000 → unwrap_or limit 65536 ≤ 1000000 → AreOrdinary (path ∷ goals) →
     words ≡ asking_words (codes "explain") budget limit hold (path ∷ goals) →
     (index : ComparedIndex) × (readings ≡ (path, index.text) ∷ []) × IndexSays index.text index.home index.stanzas × IsSearched budget limit hold index
-    × HasEach index.stanzas (λ n. nat_lt n (length index.stanzas)) goals × IsFaithfulExplanation index goals status printed
+    × HasEach index.stanzas (all_stanzas index.stanzas) goals × IsFaithfulExplanation index goals status printed
 
 -- what `status` asks of the index by goals, the status of that answer, and what is printed of it
 pub data IsSuiteAnswer (index : ComparedIndex) (goals : List Text) : ℕ → Text → Type 0 where
-  suite_yes : IsWithinBudget index goals → CanMeet index goals → IsSuiteAnswer index goals 0 (codes "yes")
-  suite_no : IsWithinBudget index goals → ¬ (CanMeet index goals) → IsSuiteAnswer index goals 1 (codes "no")
+  suite_yes : ¬ (IsPastBudget index goals) → CanMeet index goals → IsSuiteAnswer index goals 0 (codes "yes")
+  suite_no : ¬ (IsPastBudget index goals) → ¬ (CanMeet index goals) → IsSuiteAnswer index goals 1 (codes "no")
   suite_undecided : IsPastBudget index goals → IsSuiteAnswer index goals 8 (codes "undecided " ++ decimal index.budget)
 
--- `status`. The file is groups of fields. Its own packages are those that are installed and not foreign to the index. It is printed which of them the
--- index has, whether they stand together, and whether those that the index has can be installed from it together, as `query` answers. The status is 1
--- if they do not stand together, and else that of this answer.
+-- `status`. The file is groups of fields. Its own packages are those that are installed and not foreign to the index; a foreign one meets no need and
+-- is in no conflict. It is printed which of them the index has, whether they stand together, and whether those that the index has can be installed
+-- from it together, as `query` answers. The status is 1 if they do not stand together, and else that of this answer.
 pub record IsFaithfulSystem (index : ComparedIndex) (file : Text) (status : ℕ) (printed : Text) : Type 0 where
   pub groups : (group : List Text) → In group (stanza_groups file) → IsStanza group
   pub home : Home
   pub own : List PackageFacts
-  pub says : GroupsSay (filter (is_own_group index.home) (stanza_groups file)) home own
+  pub own_say : GroupsSay (filter (is_own_group index.home) (stanza_groups file)) home own
   pub state : OwnState
-  pub stands : IsOwnState home own state
+  pub state_is : IsOwnState home own state
   pub answer : ℕ
   pub suite : Text
-  pub asked : IsSuiteAnswer index (map goal_word_of (filter (has_package index) own)) answer suite
-  pub ends : status ≡ system_status state answer
-  pub reads : printed ≡ printed_system index own (count_by (is_foreign_group index.home) (stanza_groups file)) state suite
+  pub answer_is : IsSuiteAnswer index (map goal_word_of (filter (has_package index) own)) answer suite
+  pub status_is : status ≡ system_status state answer
+  pub bytes_are : printed ≡ printed_system index own (count_by (is_foreign_group index.home) (stanza_groups file)) state suite
 
 -- What a run prints for `status`, with its options in the order of `asking_words`, is a faithful report on the file against the index, which is read first.
 abbrev pub StatusIsTrue : List Text → List OpenedFile → ℕ → Text → Type 0
@@ -153,8 +154,8 @@ StatusIsTrue words readings status printed = (budget limit : Option ℕ) (hold :
     × IsFaithfulSystem index file status printed
 
 -- `migrate`. There is a line for each name that differs, in order. A name is taken if the mix with it and the names taken before is within the clause
--- limit, and its comparison with the older index has no lines; it is left if the mix passes the limit, or else for the first line of that comparison.
--- In the mix of all that are taken, no name and no two names that could be installed in the older index are lost.
+-- limit, and its comparison with the older index has no lines. It is left if the mix passes the limit, or else for the first line of that comparison.
+-- In the mix of all that are taken, no two names that could be installed in the older index are lost, and no name, which is twice the same one.
 abbrev pub IsRightStep : ComparedIndex → ComparedIndex → PlanLine → Type 0
 IsRightStep old mix (Take name) = (¬ (PassesOnTheWay mix.limit mix.hold (suite_repository mix.home mix.stanzas))) × IsFaithfulList old mix []
 IsRightStep old mix (LeftLimit name) = PassesOnTheWay mix.limit mix.hold (suite_repository mix.home mix.stanzas)
@@ -167,10 +168,10 @@ pub record IsFaithfulPlan (old new : ComparedIndex) (lines : List PlanLine) : Ty
   pub names : (name : Text) → In name (map planned_name lines) ↔ Differs old new name
   pub each : (front back : List PlanLine) (l : PlanLine) → lines ≡ front ++ l ∷ back → (mix : ComparedIndex) × IsMix old new (taken_in front ++ planned_name l ∷ []) mix × IsRightStep old mix l
   pub last : taken_in lines ≢ [] → (mix : ComparedIndex) × IsMix old new (taken_in lines) mix
-      × ((a b : Text) → HasPackageOf old a → HasPackageOf mix a → HasPackageOf old b → HasPackageOf mix b → Installs old (a ∷ b ∷ []) → Installs mix (a ∷ b ∷ []))
+      × ((a b : Text) → HasPackageOf old a → HasPackageOf mix a → HasPackageOf old b → HasPackageOf mix b → CanMeet old (a ∷ b ∷ []) → CanMeet mix (a ∷ b ∷ []))
 
--- What a run prints for `migrate`, with its options in the order of `asking_words`, is the lines of a faithful plan for the two files, and the status is
--- that of these lines: 1 if a name is left for a broken line, or else 8 if a name is left, or else 0.
+-- What a run prints for `migrate`, with its options in the order of `asking_words`, is the lines of a faithful plan for the two files. The status is that
+-- of these lines: 1 if a name is left for a broken line, or else 8 if a name is left, or else 0.
 abbrev pub MigrateIsTrue : List Text → List OpenedFile → ℕ → Text → Type 0
 MigrateIsTrue words readings status printed = (budget limit : Option ℕ) (hold : Bool) (first second : Text) → unwrap_or budget 10000 ≤ 1000000 → unwrap_or limit 65536 ≤ 1000000 →
     words ≡ asking_words (codes "migrate") budget limit hold (first ∷ second ∷ []) →

@@ -12,7 +12,7 @@ WritesRestriction text None = text ≡ []
 WritesRestriction text (Some bound) = (front operator middle back : Text) × IsWhite (front ++ (middle ++ back)) × SpellsOp operator bound.op × (is_version bound.version ≡ true) ×
     (text ≡ codes "(" ++ (front ++ (operator ++ (middle ++ (bound.version ++ (back ++ codes ")"))))))
 
--- a package name, a qualifier right behind it, and a restriction, with white space before, between and behind
+-- a package name, a qualifier right after it, and a restriction, with white space before, between and after
 abbrev pub WritesAtom : Text → Atom → Type 0
 WritesAtom text atom = (front qualifier middle restriction back : Text) × IsWhite (front ++ (middle ++ back)) × (is_name atom.name ≡ true) ×
     SpellsQualifier qualifier atom.qualifier × WritesRestriction restriction atom.bound × (text ≡ front ++ (atom.name ++ (qualifier ++ (middle ++ (restriction ++ back)))))

@@ -1,15 +1,14 @@
--- What a dpkg status file says of an installed system, and what is told of it.
-use Rattle.std.specs.Prelude.{◌≡◌, ℕ, ◌<◌, ◌≤◌, ◌⊎◌, ◌-◌, Bool, true, false, not, ◌&&◌, ◌||◌, List, [], ◌∷◌, ◌++◌, codes, filter, length, nat_lt, unwrap_or, if◌then◌else◌}
+-- What a dpkg status file says of an installed system, and what is printed of it.
+use Rattle.std.specs.Prelude.{◌≡◌, ℕ, ◌<◌, ◌≤◌, ◌⊎◌, ◌-◌, Bool, true, false, not, ◌&&◌, ◌||◌, List, [], ◌∷◌, ◌++◌, codes, filter, length, unwrap_or, if◌then◌else◌}
 use Rattle.std.specs.{Fmt.{decimal}, List.{flat_map, list_any}, Option.{option_map_or}, Str.{bytes_eq}}
 use Rattle.coinst_words.specs.Usage.{Text}
 use Rattle.kernel_text.specs.KernelLines.{with_feed}
 use Rattle.listed.specs.Lists.{In}
 use Rattle.relation_fields.specs.{declared.packages.Home.{Home}, declared.packages.PackageFacts.{PackageFacts}, declared.relations.Atom.{Atom}}
 use Rattle.repo_model.specs.{Repository.{in_conflict}, Stanzas.{Met, stanza_at, HealthyStanzas}}
-use Rattle.row_book.specs.Sets.{NumSet}
 use Rattle.status_check.specs.{Installed.{says_installed, words}, declared.report.OwnState.{OwnState}}
 use Rattle.status_check.specs.declared.report.OwnState.TheVariants.{Healthy, Unhit, Clash}
-use Rattle.claims.specs.{Asked.{ComparedIndex}, Control.{field_value}, Explained.{printed_package}, Index.{is_one_package}}
+use Rattle.claims.specs.{Asked.{ComparedIndex}, Control.{field_value}, Explained.{printed_package}, Goals.{all_stanzas}, Index.{is_one_package}}
 
 -- the group is of an installed package: the third of the three words of its status is `installed`
 abbrev pub is_installed_group : List Text → Bool
@@ -34,16 +33,12 @@ has_package s own = list_any (λ it. is_one_package it.name it.version own.name 
 abbrev pub goal_word_of : PackageFacts → Text
 goal_word_of own = own.name ++ 61 ∷ own.version
 
--- all packages of a list
-abbrev pub all_stanzas : List PackageFacts → NumSet
-all_stanzas stanzas n = nat_lt n (length stanzas)
-
 -- each need of the own package is met by one of them
 abbrev pub HasItsNeeds : Home → List PackageFacts → ℕ → Type 0
 HasItsNeeds home own n = (element : List Atom) → In element (stanza_at own n).needs → Met home own (all_stanzas own) element
 
--- Whether the own packages stand together: they are a healthy set; or this is the first of them with a need that none of them meets; or each need is met,
--- and these are the first two of them in conflict.
+-- Whether the own packages stand together: they are a healthy set. Or this is the first of them with a need that none of them meets. Or each need is
+-- met, and these are the first two of them in conflict.
 abbrev pub IsOwnState : Home → List PackageFacts → OwnState → Type 0
 IsOwnState home own Healthy = HealthyStanzas home own (all_stanzas own)
 IsOwnState home own (Unhit n) = (n < length own) × ((m : ℕ) → m < n → HasItsNeeds home own m) × (¬ (HasItsNeeds home own n))

@@ -2,7 +2,7 @@
 //! and then under a name of its own; laws tie the two. The functions do nothing, the contract of each is one law.
 #![tactic(auto)]
 
-ghost use Rattle.claims.specs.Laws.{SpellingsAreRead, TreesAreSearches, SearchesAreOne, IndexesAreRead, IndexesAreOne, IndexesAreAccepted, KernelsAreKernels, KernelsAreOne, KernelsMeanThis, PrintedKernelsAreFaithful, KernelTextsAreThere, KernelWordsAsk, CompareWordsAsk, WordsAreTaken, ComparisonsMeanThis, EmptyIndexes, WrongReports};
+ghost use Rattle.claims.specs.Laws.{SpellingsAreRead, TreesAreSearches, SearchesAreOne, IndexesAreRead, IndexesAreOne, IndexesAreAccepted, KernelsAreKernels, KernelsAreOne, KernelsMeanThis, PrintedKernelsAreFaithful, KernelTextsAreThere, KernelTextsAreOne, KernelWordsAsk, CompareWordsAsk, WordsAreTaken, ComparisonsMeanThis, EmptyIndexes, TrueReports, WrongReports};
 
 /// What is read of a relation is what it is one way of writing.
 pub fn spellings_are_read()
@@ -60,6 +60,11 @@ pub fn kernel_texts_are_there()
     ensures { KernelTextsAreThere }
 {}
 
+/// An index has one kernel text, so that they speak of the same text.
+pub fn kernel_texts_are_one()
+    ensures { KernelTextsAreOne }
+{}
+
 /// The words of a kernel ask for it, where they ask for anything.
 pub fn kernel_words_ask()
     ensures { KernelWordsAsk }
@@ -83,6 +88,11 @@ pub fn comparisons_mean_this()
 /// The sentences are true of empty indexes, and the first is not of a kernel that lacks the package of its index.
 pub fn empty_indexes()
     ensures { EmptyIndexes }
+{}
+
+/// Reports on an empty index of which the other sentences are true.
+pub fn true_reports()
+    ensures { TrueReports }
 {}
 
 /// Reports of which the sentences are not true, each for one reason.

@@ -1,40 +1,40 @@
 -- The sentence of `explain`, from what its report means.
-use Rattle.std.proofs.Common.{◌≡◌, ℕ, ◌+◌, ◌-◌, ◌<◌, ◌≤◌, Bool, true, false, cond, List, [], ◌∷◌, ◌++◌, Option, Some, None, length, map, slice_index_or, refl, sym, ap, ap₂, subst, ◌∙◌, arith, inl, inr}
+use Rattle.std.proofs.Common.{◌≡◌, ℕ, ◌+◌, ◌-◌, ◌<◌, ◌≤◌, Bool, true, false, cond, List, [], ◌∷◌, ◌++◌, Option, Some, None, length, map, refl, sym, ap, ap₂, subst, ◌∙◌, arith, inl, inr}
 use Rattle.std.proofs.lemmas.List.{length-map, map-append}
-use Rattle.std.specs.{Prelude.{codes, unwrap_or, IfSome}, Fmt.{decimal}, List.{flat_map}, Option.{option_map_or}}
+use Rattle.std.specs.{Prelude.{codes, option_map, unwrap_or, IfSome}, Fmt.{decimal}, List.{flat_map}, Option.{option_map_or}}
 use Rattle.byte_flow.specs.History.{OpenedFile}
 use Rattle.coinst_words.specs.{Jobs.{job_of}, Usage.{Text}, declared.job.Job.TheVariants.{Explain}}
 use Rattle.deb_version.specs.Names.{is_name}
-use Rattle.explain_core.specs.{Core.{goal_numbered, goals_numbered, marked_goals}, Meaning.{IsCoreOf}}
-use Rattle.explain_core.specs.{OnStanzas.{AreEnough, CoinstButFor, HealthyButFor, IsTellable}, Picking.{ArePlacesFrom1}, declared.explanation.Clash.{Clash}}
-use Rattle.explain_core.specs.{declared.explanation.Explanation.TheVariants.{Core}, declared.explanation.Mark.{Mark}}
+use Rattle.clause_solver.specs.declared.outcomes.Verdict.{Verdict}
+use Rattle.clause_solver.specs.declared.outcomes.Verdict.TheVariants as verdict
+use Rattle.explain_core.specs.{Core.{goal_core, goal_numbered, marked_goals, marks_of}, Explaining.{clashes_for, explained_by}, Meaning.{IsCoreOf}, Only.{pair}}
+use Rattle.explain_core.specs.{Reasons.{clashes_of, conflicts_reached, reasons_of}, OnStanzas.{AreEnough, CoinstButFor, HealthyButFor, IsTellable}}
+use Rattle.explain_core.specs.{Picking.{ArePlacesFrom1}, declared.explanation.Clash.{Clash}, declared.explanation.Explanation.TheVariants.{Core}}
+use Rattle.explain_core.specs.declared.explanation.Mark.{Mark}
 use Rattle.explain_core.proofs.Tellable.{explanation_tellable}
 use Rattle.headline.specs.Indexes.{searched}
 use Rattle.kernel_text.specs.KernelLines.{with_feed}
 use Rattle.listed.specs.Lists.{In, here, there}
-use Rattle.listed.proofs.Lists.{In_cases, In_map_cases, In_none}
+use Rattle.listed.proofs.Lists.{In_cases}
 use Rattle.relation_fields.specs.declared.packages.PackageFacts.{PackageFacts}
-use Rattle.repo_model.specs.{FirstFault.{first_fault}, Goals.{any_version, goal_of}, Stanzas.{stanza_at}, declared.goals.Goal.{Goal}}
-use Rattle.suite_compare.specs.Refusals.{home_in, packages_in}
+use Rattle.repo_model.specs.{FirstFault.{first_fault}, Goals.{any_version, goal_of}, Repository.{suite_repository}, Stanzas.{stanza_at}}
+use Rattle.repo_model.specs.declared.goals.Goal.{Goal}
+use Rattle.suite_compare.specs.{Asking.{verdict_in, wanted_by}, Refusals.{home_in, packages_in}}
 use Rattle.claims.specs.Asked.{ComparedIndex}
-use Rattle.claims.specs.Explained.{AreReasonsFor, CouldMeet, IsCoreOfGoals, ToldGoal, clashes_told, printed_clashes, printed_core, told_words}
-use Rattle.claims.specs.{Goals.{CanMeet}, Laws.{suite_of}, Sentences.{ExplainIsTrue, IsFaithfulExplanation}}
-use Rattle.claims.specs.Sentences.IsFaithfulExplanation.{yes as told_yes, core as told_core, undecided as told_undecided}
-use Rattle.claims.proofs.{AskingWords.{explain_words_ask}, Goals.{AreGoals, word_at, word_is}, Index.{indexes_are_read}}
-use Rattle.claims.proofs.Meeting.{can_meet, each_from, each_to, meets_goals}
+use Rattle.claims.specs.Explained.{AreConflictsFor, AreKept, AreReasonsFor, CouldMeet, IsCoreOfGoals, IsTooLongWith, PrintedGoal, clashes_printed, printed_clashes, printed_core, kept_words}
+use Rattle.claims.specs.{Goals.{CanMeet}, Laws.{suite_of}, Sentences.{ExplainIsTrue, IsFaithfulExplanation}, Settled.{IsPastBudget}}
+use Rattle.claims.specs.Sentences.IsFaithfulExplanation.{yes as yes_printed, core as core_printed, undecided as undecided_printed}
+use Rattle.claims.proofs.{AskingWords.{explain_words_ask}, Cores.{conflicts_are_kept, each_wanted, goals_are_kept, printed_goal}}
+use Rattle.claims.proofs.{Goals.{AreGoals, word_at, word_is}, Index.{indexes_are_read}, Meeting.{can_meet, each_from, each_to, meets_goals}}
 use Rattle.coinst_run.specs.{Status.{code_of, verdict_status}, declared.answer.ReportVerdict.{ReportVerdict}}
-use Rattle.coinst_run.specs.declared.answer.ReportVerdict.TheVariants.{Done, Negative, Undecided}
-use Rattle.coinst_run.specs.ExplainMeaning.{ExplainMeans, ExplainedCore, ExplainedYes, MeansExplained}
+use Rattle.coinst_run.specs.{declared.answer.ReportVerdict.TheVariants.{Done, Negative, Undecided}, ExplainMeaning.{ExplainMeans, MeansExplained}}
 use Rattle.coinst_run.specs.{ExplainText.{core_text, clash_count, clashes_text, goal_line, yes_line}, Meaning.{IsMeant, MeansJob}}
 use Rattle.coinst_run.specs.QueryText.{goal_word, undecided_text, version_word}
 use Rattle.coinst_run.proofs.QuerySentences.{all_known, in_time, named, past}
 
 -- the goals that are marked, by their words
-abbrev told_of : List Text → Mark → ToldGoal
-told_of words m = record { word = slice_index_or words (m.goal - 1) []; undecided = m.unsettled }
-
-abbrev all_told : List Text → List Mark → List ToldGoal
-all_told words marks = map (told_of words) marks
+abbrev all_printed : List Text → List Mark → List PrintedGoal
+all_printed words marks = map (printed_goal words) marks
 
 version_told : (version : Option Text) → version_word version ≡ option_map_or (λ v. codes "=" ++ v) version []
 version_told None = refl
@@ -70,27 +70,30 @@ module _ (text : Text) (budget limit : ℕ) (hold : Bool) (words : List Text) (g
   abbrev stanzas : List PackageFacts
   stanzas = packages_in text
 
+  abbrev core_marks : List Mark
+  core_marks = marks_of (goal_core limit hold (home_in text) stanzas budget goals)
+
   known_names : (n : ℕ) → n < length stanzas → is_name (stanza_at stanzas n).name ≡ true
   known_names = named text budget limit hold words goals z accepted
 
   -- each marked goal has its word
-  marked_word : (m : Mark) → (0 < m.goal) × (m.goal ≤ length goals) → (goal_of (told_of words m).word ≡ Some (goal_numbered goals m.goal)) × In (told_of words m).word words
+  marked_word : (m : Mark) → (0 < m.goal) × (m.goal ≤ length goals) → (goal_of (printed_goal words m).word ≡ Some (goal_numbered goals m.goal)) × In (printed_goal words m).word words
   marked_word m place = word_at words goals (any_version []) z (m.goal - 1) (let low : 0 < m.goal = place.0 in let high : m.goal ≤ length goals = place.1 in omega (arith, low, high))
 
-  marked : (marks : List Mark) → ArePlacesFrom1 (length goals) marks → AreGoals (told_words (all_told words marks)) (marked_goals goals marks)
+  marked : (marks : List Mark) → ArePlacesFrom1 (length goals) marks → AreGoals (kept_words (all_printed words marks)) (marked_goals goals marks)
   marked [] p = tt
   marked (m ∷ marks) p = ((marked_word m (p m here)).0, marked marks (λ o i. p o (there i)))
 
   -- the texts are one
-  line_same : (m : Mark) → (0 < m.goal) × (m.goal ≤ length goals) → goal_line goals m ≡ with_feed (cond m.unsettled (codes "goal-open ") (codes "goal ") ++ (told_of words m).word)
-  line_same m place = ap (λ w. with_feed (cond m.unsettled (codes "goal-open ") (codes "goal ") ++ w)) (goal_told (told_of words m).word (goal_numbered goals m.goal) (marked_word m place).0)
+  line_same : (m : Mark) → (0 < m.goal) × (m.goal ≤ length goals) → goal_line goals m ≡ with_feed (cond m.unsettled (codes "goal-open ") (codes "goal ") ++ (printed_goal words m).word)
+  line_same m place = ap (λ w. with_feed (cond m.unsettled (codes "goal-open ") (codes "goal ") ++ w)) (goal_told (printed_goal words m).word (goal_numbered goals m.goal) (marked_word m place).0)
 
   lines_same : (marks : List Mark) → ArePlacesFrom1 (length goals) marks
-      → flat_map (goal_line goals) marks ≡ flat_map (λ (t : ToldGoal). with_feed (cond t.undecided (codes "goal-open ") (codes "goal ") ++ t.word)) (all_told words marks)
+      → flat_map (goal_line goals) marks ≡ flat_map (λ (t : PrintedGoal). with_feed (cond t.undecided (codes "goal-open ") (codes "goal ") ++ t.word)) (all_printed words marks)
   lines_same [] p = refl
   lines_same (m ∷ marks) p = ap₂ (λ x y. x ++ y) (line_same m (p m here)) (lines_same marks (λ o i. p o (there i)))
 
-  counted : (clashes : Option (List Clash)) → clash_count clashes ≡ clashes_told clashes
+  counted : (clashes : Option (List Clash)) → clash_count clashes ≡ clashes_printed clashes
   counted None = refl
   counted (Some clashes) = refl
 
@@ -98,22 +101,15 @@ module _ (text : Text) (budget limit : ℕ) (hold : Bool) (words : List Text) (g
   clashes_same None = refl
   clashes_same (Some clashes) = refl
 
-  core_same : (marks : List Mark) (clashes : Option (List Clash)) → ArePlacesFrom1 (length goals) marks → core_text stanzas goals marks clashes ≡ printed_core stanzas (all_told words marks) clashes
+  core_same : (marks : List Mark) (clashes : Option (List Clash)) → ArePlacesFrom1 (length goals) marks → core_text stanzas goals marks clashes ≡ printed_core stanzas (all_printed words marks) clashes
   unfolding core_text
   core_same marks clashes p =
-      let long : length (all_told words marks) ≡ length marks = simp length-map in
+      let long : length (all_printed words marks) ≡ length marks = simp length-map in
       ap₂ (λ x y. x ++ y ++ with_feed (codes "end " ++ decimal (length marks) ++ codes " " ++ decimal (clash_count clashes))) (lines_same marks p) (clashes_same clashes)
-      ∙ ap₂ (λ m n. flat_map (λ (t : ToldGoal). with_feed (cond t.undecided (codes "goal-open ") (codes "goal ") ++ t.word)) (all_told words marks) ++ printed_clashes stanzas clashes ++ with_feed (codes "end " ++ decimal m ++ codes " " ++ decimal n))
+      ∙ ap₂ (λ m n. flat_map (λ (t : PrintedGoal). with_feed (cond t.undecided (codes "goal-open ") (codes "goal ") ++ t.word)) (all_printed words marks) ++ printed_clashes stanzas clashes ++ with_feed (codes "end " ++ decimal m ++ codes " " ++ decimal n))
       (sym long) (counted clashes)
 
   -- the core
-  asked : (marks : List Mark) → ArePlacesFrom1 (length goals) marks → (word : Text) → In word (told_words (all_told words marks)) → In word words
-  asked [] p word i = absurd (In_none i)
-  asked (m ∷ marks) p word i = elim (In_cases i) [
-    | inl same ↦ subst (λ w. In w words) (sym same) (marked_word m (p m here)).1
-    | inr j ↦ asked marks (λ o k. p o (there k)) word j
-  ]
-
   some_marks : (front : List Mark) (m : Mark) (back : List Mark) → ArePlacesFrom1 (length goals) (front ++ m ∷ back) → ArePlacesFrom1 (length goals) (front ++ back)
   some_marks [] m back p o i = p o (there i)
   some_marks (x ∷ front) m back p o i = elim (In_cases i) [
@@ -121,18 +117,20 @@ module _ (text : Text) (budget limit : ℕ) (hold : Bool) (words : List Text) (g
     | inr j ↦ some_marks front m back (λ q k. p q (there k)) o j
   ]
 
-  core_so : (marks : List Mark) → ArePlacesFrom1 (length goals) marks → IsCoreOf (home_in text) stanzas goals marks → IsCoreOfGoals index words (all_told words marks)
-  core_so marks p c = record {
-    asked = asked marks p;
-    impossible = λ met. c.impossible (meets_goals index (told_words (all_told words marks)) (marked_goals goals marks) (marked marks p) known_names met);
+  core_so : (marks : List Mark) → ArePlacesFrom1 (length goals) marks → marks ≡ core_marks → IsCoreOf (home_in text) stanzas goals marks → IsCoreOfGoals index words (all_printed words marks)
+  core_so marks p same_marks c = record {
+    asked =
+        subst (λ ms. AreKept (λ (g : PrintedGoal). g.word) (λ (g : PrintedGoal). g.undecided) (IsPastBudget index) [] words (all_printed words ms)) (sym same_marks)
+        (goals_are_kept (searched text budget limit hold) accepted words goals z);
+    impossible = λ met. c.impossible (meets_goals index (kept_words (all_printed words marks)) (marked_goals goals marks) (marked marks p) known_names met);
     needed = λ before after t e closed.
-        let w = split_of (told_of words) marks before after t e in
-        let open_same : (w.item).unsettled ≡ false = ap (λ (g : ToldGoal). g.undecided) w.of_item ∙ closed in
+        let w = split_of (printed_goal words) marks before after t e in
+        let open_same : (w.item).unsettled ≡ false = ap (λ (g : PrintedGoal). g.undecided) w.of_item ∙ closed in
         let rest : List Mark = w.front ++ w.back in
         let places : ArePlacesFrom1 (length goals) rest = some_marks w.front w.item w.back (subst (ArePlacesFrom1 (length goals)) w.whole p) in
-        let met : CanMeet index (told_words (all_told words rest)) = can_meet index (told_words (all_told words rest)) (marked_goals goals rest) (marked rest places) (c.needed w.front w.back w.item w.whole open_same) in
-        let same : all_told words rest ≡ before ++ after = map-append (told_of words) w.front w.back ∙ ap₂ (λ x y. x ++ y) w.of_front w.of_back in
-        subst (λ told. CanMeet index (told_words told)) same met;
+        let met : CanMeet index (kept_words (all_printed words rest)) = can_meet index (kept_words (all_printed words rest)) (marked_goals goals rest) (marked rest places) (c.needed w.front w.back w.item w.whole open_same) in
+        let same : all_printed words rest ≡ before ++ after = map-append (printed_goal words) w.front w.back ∙ ap₂ (λ x y. x ++ y) w.of_front w.of_back in
+        subst (λ told. CanMeet index (kept_words told)) same met;
   }
 
   -- the reasons
@@ -144,23 +142,48 @@ module _ (text : Text) (budget limit : ℕ) (hold : Bool) (words : List Text) (g
       let healthy : HealthyButFor (home_in text) stanzas clashes c.0 = c.1 in
       record { whole = c.0; healthy = healthy; serves = each_to stanzas c.0 some picked y (λ n i. known_names n (healthy.numbers n i)) c.2 }
 
-  reasons_so : (some : List Text) (picked : List Goal) → AreGoals some picked → (clashes : Option (List Clash)) → IfSome clashes (AreEnough (home_in text) stanzas picked) → IfSome clashes (AreReasonsFor index some)
-  reasons_so some picked y None r = tt
-  reasons_so some picked y (Some clashes) r = record {
-    conflicts = r.conflicts;
-    enough = λ c. r.enough (could_to clashes some picked y c);
-    needed = λ before after c e closed. could_from (before ++ after) some picked y (r.needed before after c e closed);
-  }
+  module _ (some : List Text) (picked : List Goal) (y : AreGoals some picked) where
+    abbrev wanted : List (List ℕ)
+    wanted = wanted_by stanzas picked
+
+    abbrev AreKeptPairs : List Clash → Type 0
+    AreKeptPairs clashes = AreKept (λ c. pair c.first c.second) (λ c. c.unsettled) (IsTooLongWith index wanted) [] (conflicts_reached (suite_repository (home_in text) stanzas) wanted) clashes
+
+    reasons_so : (clashes : Option (List Clash)) → IfSome clashes AreKeptPairs → IfSome clashes (AreEnough (home_in text) stanzas picked) → IfSome clashes (AreReasonsFor index some wanted)
+    reasons_so None kept r = tt
+    reasons_so (Some clashes) kept r = record {
+      conflicts = r.conflicts;
+      enough = λ c. r.enough (could_to clashes some picked y c);
+      needed = λ before after c e closed. could_from (before ++ after) some picked y (r.needed before after c e closed);
+      kept = kept;
+    }
+
+    conflicts_so : (clashes : Option (List Clash)) → clashes ≡ option_map clashes_of (reasons_of (suite_repository (home_in text) stanzas) budget wanted) → IfSome clashes (AreEnough (home_in text) stanzas picked)
+        → AreConflictsFor index some clashes
+    conflicts_so clashes is r =
+        let kept = conflicts_are_kept (searched text budget limit hold) accepted some picked y clashes is in
+        record { wanted = wanted; named = each_wanted (searched text budget limit hold) accepted some picked y; whole = kept.0; reasons = reasons_so clashes kept.1 r }
+
+  -- the core that is explained
+  core_parts : (v : Verdict) (marks : List Mark) (clashes : Option (List Clash)) → explained_by limit hold (home_in text) stanzas budget goals v ≡ Core marks clashes
+      → (marks ≡ core_marks) × (clashes ≡ clashes_for (home_in text) stanzas budget goals marks)
+  core_parts verdict.Yes marks clashes e = absurd (let no : ⊥ = cc in no)
+  core_parts verdict.Spent marks clashes e = absurd (let no : ⊥ = cc in no)
+  core_parts verdict.No marks clashes e =
+      let same : core_marks ≡ marks = cc in
+      let same_clashes : clashes_for (home_in text) stanzas budget goals core_marks ≡ clashes = cc in
+      (sym same, sym same_clashes ∙ ap (clashes_for (home_in text) stanzas budget goals) same)
 
   explained_so : (verdict : ReportVerdict) (printed : Text) → MeansExplained text goals budget limit hold verdict printed → IsFaithfulExplanation index words (code_of (verdict_status verdict)) printed
   unfolding yes_line undecided_text
-  explained_so Done printed m = told_yes refl m.reads (in_time text budget limit hold words goals z accepted m.within) (can_meet index words goals z m.possible)
+  explained_so Done printed m = yes_printed refl m.reads (in_time text budget limit hold words goals z accepted m.within) (can_meet index words goals z m.possible)
   explained_so Negative printed m =
       let tellable : IsTellable (length stanzas) (length goals) (Core m.marks m.clashes) = subst (IsTellable (length stanzas) (length goals)) m.is (explanation_tellable (home_in text) stanzas limit hold budget goals) in
       let places : ArePlacesFrom1 (length goals) m.marks = tellable.0 in
-      told_core refl (all_told words m.marks) m.clashes (m.reads ∙ core_same m.marks m.clashes places) (in_time text budget limit hold words goals z accepted m.within) (core_so m.marks places m.core)
-      (reasons_so (told_words (all_told words m.marks)) (marked_goals goals m.marks) (marked m.marks places) m.clashes m.reasons)
-  explained_so Undecided printed m = told_undecided refl m.reads (past text budget limit hold words goals z accepted m.spent)
+      let parts = core_parts (verdict_in limit hold (home_in text) stanzas budget goals) m.marks m.clashes m.is in
+      core_printed refl (all_printed words m.marks) m.clashes (m.reads ∙ core_same m.marks m.clashes places) (in_time text budget limit hold words goals z accepted m.within) (core_so m.marks places parts.0 m.core)
+      (conflicts_so (kept_words (all_printed words m.marks)) (marked_goals goals m.marks) (marked m.marks places) m.clashes parts.1 m.reasons)
+  explained_so Undecided printed m = undecided_printed refl m.reads (past text budget limit hold words goals z accepted m.spent)
 
 pub explain_is_true : (words : List Text) (readings : List OpenedFile) (verdict : ReportVerdict) (printed : Text) → IsMeant words readings verdict printed → ExplainIsTrue words readings (code_of (verdict_status verdict)) printed
 explain_is_true words readings verdict printed m budget limit hold path goals low small o is =

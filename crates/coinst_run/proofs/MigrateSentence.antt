@@ -1,15 +1,15 @@
 -- The sentence of `migrate`, from what its report means.
-use Rattle.std.proofs.Common.{◌≡◌, ◌≢◌, ℕ, ◌+◌, ◌-◌, ◌<◌, ◌≤◌, Bool, true, false, not, cond, ◌||◌, List, [], ◌∷◌, ◌++◌, Option, Some, None, filter, length, map, refl, sym, ap, ap₂, subst, ◌∙◌, arith, append_assoc, inl, inr}
+use Rattle.std.proofs.Common.{◌≡◌, ℕ, ◌+◌, ◌-◌, ◌≤◌, Bool, true, false, cond, ◌||◌, List, [], ◌∷◌, ◌++◌, None, filter, length, map, refl, sym, ap, ap₂, subst, ◌∙◌, arith, append_assoc, inl, inr}
 use Rattle.std.proofs.lemmas.List.{append-nil}
-use Rattle.std.specs.{Prelude.{codes, unwrap_or}, Fmt.{decimal}, List.{flat_map, list_any}}
+use Rattle.std.specs.{Prelude.{codes, unwrap_or}, List.{flat_map, list_any}}
 use Rattle.byte_flow.specs.History.{OpenedFile}
 use Rattle.clause_pool.specs.Lists.{InOrder}
 use Rattle.coinst_words.specs.{Jobs.{job_of}, Usage.{Text}, declared.job.Job.TheVariants.{Migrate}}
-use Rattle.headline.specs.{Indexes.{SearchedIndex, HasName, searched}, Listing.{BothHave, ListsExactly, LosesNothing, is_broken}}
+use Rattle.headline.specs.{Indexes.{searched}, Listing.{BothHave, ListsExactly, LosesNothing, is_broken}}
 use Rattle.headline.proofs.Exact.{report_lists_exactly}
 use Rattle.kernel_text.specs.KernelLines.{with_feed}
 use Rattle.listed.specs.Lists.{In, here, there}
-use Rattle.listed.proofs.Lists.{In_append_cases, In_cases, In_none, flat_same}
+use Rattle.listed.proofs.Lists.{In_cases, In_none, flat_same}
 use Rattle.migrate_plan.specs.{Differing.{differing}, Mix.{mix}, Plan.{Settings, lines_between, passed_in, settings_of, taken_in, tried_mix}}
 use Rattle.migrate_plan.specs.{Promises.{AreRight, IsRight, planned_name, searched_by}, declared.plan.PlanLine.{PlanLine}}
 use Rattle.migrate_plan.specs.declared.plan.PlanLine.TheVariants.{Take, LeftLimit, LeftLine}
@@ -17,12 +17,12 @@ use Rattle.repo_model.specs.{FirstFault.{first_fault}, Repository.{suite_reposit
 use Rattle.repo_model.proofs.SoundSuite.{suite_sound}
 use Rattle.suite_compare.specs.{Asking.{verdict_in}, Refusals.{home_in, packages_in}, declared.report.ReportLine.{ReportLine}}
 use Rattle.suite_compare.proofs.Deciding.{verdict_is_judged}
-use Rattle.claims.specs.{Asked.{ComparedIndex, HasPackageOf, Installs}, Kernel.{PassesOnTheWay}, Laws.{suite_of}}
-use Rattle.claims.specs.{Plans.{Differs, IsMix, is_left_broken, is_left_name, plan_status, printed_plan, printed_step}, Printed.{printed_line}}
+use Rattle.claims.specs.{Asked.{ComparedIndex, HasPackageOf}, Goals.{CanMeet}, Kernel.{PassesOnTheWay}, Laws.{suite_of}}
+use Rattle.claims.specs.Plans.{is_left_broken, is_left_name, plan_status, printed_plan, printed_step}
 use Rattle.claims.specs.Sentences.{IsFaithfulList, IsFaithfulPlan, IsRightStep, MigrateIsTrue}
-use Rattle.claims.proofs.{AskingWords.{migrate_words_ask}, CompareSentence.{comparisons_mean_this, has_to, installs_from, installs_to}}
+use Rattle.claims.proofs.{AskingWords.{migrate_words_ask}, CompareSentence.{comparisons_mean_this, has_to, installs_from, installs_to, two_of}}
 use Rattle.claims.proofs.{Index.{indexes_are_read}, Passing.{passes_not, passes_so}, Plans.{differing_order, differs_from, differs_to, mix_is}}
-use Rattle.coinst_run.specs.{CompareText.{comparison_line}, Lines.{end_text}, Meaning.{IsMeant, MeansJob}, MigrateMeaning.{MigrateMeans}}
+use Rattle.coinst_run.specs.{Lines.{end_text}, Meaning.{IsMeant, MeansJob}, MigrateMeaning.{MigrateMeans}}
 use Rattle.coinst_run.specs.{MigrateText.{is_left, is_take, plan_line, plan_text, plan_verdict, would_break}, Status.{code_of, verdict_status}}
 use Rattle.coinst_run.specs.{declared.answer.ReportVerdict.{ReportVerdict}, declared.answer.ReportVerdict.TheVariants.{Done, Negative, Undecided}}
 use Rattle.coinst_run.proofs.Sentences.{same_line}
@@ -130,12 +130,13 @@ module _ (old new : Text) (budget limit : ℕ) (hold : Bool) where
   step_right tried (LeftLimit name) fine other r = passes_so limit hold (suite_repository (home_in tried) (packages_in tried)) (suite_sound (home_in tried) (packages_in tried)) r.0 r.1
   step_right tried (LeftLine name line) fine other r = (within tried r.1, (r.0, compared tried (line ∷ r.0) fine other r.2))
 
-  two_kept : (tried : Text) → LosesNothing (searched old budget limit hold) (searched tried budget limit hold) → (a b : Text) → HasPackageOf (index old) a → HasPackageOf (index tried) a → HasPackageOf (index old) b → HasPackageOf (index tried) b
-      → Installs (index old) (a ∷ (b ∷ [])) → Installs (index tried) (a ∷ (b ∷ []))
-  two_kept tried keeps a b oa ta ob tb i =
+  two_kept : (tried : Text) → first_fault old ≡ None → first_fault tried ≡ None → LosesNothing (searched old budget limit hold) (searched tried budget limit hold) → (a b : Text) → HasPackageOf (index old) a → HasPackageOf (index tried) a → HasPackageOf (index old) b → HasPackageOf (index tried) b
+      → CanMeet (index old) (a ∷ (b ∷ [])) → CanMeet (index tried) (a ∷ (b ∷ []))
+  two_kept tried fine other keeps a b oa ta ob tb i =
       let first : BothHave (searched old budget limit hold) (searched tried budget limit hold) a = (has_to (searched old budget limit hold) a oa, has_to (searched tried budget limit hold) a ta) in
       let second : BothHave (searched old budget limit hold) (searched tried budget limit hold) b = (has_to (searched old budget limit hold) b ob, has_to (searched tried budget limit hold) b tb) in
-      installs_from (searched tried budget limit hold) (a ∷ (b ∷ [])) (keeps.pairs a b first second (installs_to (searched old budget limit hold) (a ∷ (b ∷ [])) i))
+      installs_from (searched tried budget limit hold) other (a ∷ (b ∷ [])) (two_of (index tried) a b ta tb)
+      (keeps.pairs a b first second (installs_to (searched old budget limit hold) fine (a ∷ (b ∷ [])) (two_of (index old) a b oa ob) i))
 
   plan_so : (verdict : ReportVerdict) (printed : Text) (k : MigrateMeans old new budget limit hold verdict printed) → IsFaithfulPlan (index old) (index new) k.lines
   plan_so verdict printed k =
@@ -159,7 +160,7 @@ module _ (old new : Text) (budget limit : ℕ) (hold : Bool) where
             let fine : first_fault (mix old new taken) ≡ None = k.mixes taken (λ name i. subst (In name) k.names (taken_named k.lines name i)) in (
               index (mix old new taken),
               mix_is (searched old budget limit hold) (searched new budget limit hold) taken k.old_accepted k.new_accepted fine,
-              two_kept (mix old new taken) (k.safely.keeps some),
+              two_kept (mix old new taken) k.old_accepted fine (k.safely.keeps some),
             );
       }
 

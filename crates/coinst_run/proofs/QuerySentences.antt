@@ -1,40 +1,39 @@
 -- The sentences of `query`, of an index and of a stored kernel, and that a printed kernel is settled, from what a report means.
-use Rattle.std.proofs.Common.{◌≡◌, ℕ, ◌<◌, ◌≤◌, Bool, true, false, List, [], ◌∷◌, Some, None, length, map, refl, sym, ap, ap₂, subst, ◌∙◌, ◌+◌, arith}
+use Rattle.std.proofs.Common.{◌≡◌, ℕ, ◌<◌, ◌≤◌, Bool, true, false, List, [], None, length, refl, sym, ap, ap₂, subst, ◌∙◌, ◌+◌, arith}
 use Rattle.std.proofs.lemmas.Bool.Decides.{nat_tests}
-use Rattle.std.specs.Prelude.{codes, is_some, nat_lt, unwrap_or}
+use Rattle.std.specs.Prelude.{is_some, nat_lt, unwrap_or}
 use Rattle.byte_flow.specs.History.{OpenedFile}
 use Rattle.coinst_words.specs.{Jobs.{job_of}, Usage.{Text}, declared.job.Job.TheVariants.{Kernel, Query, StoredQuery}}
 use Rattle.deb_version.specs.Names.{is_name}
 use Rattle.headline.specs.Indexes.{SearchedIndex, searched}
 use Rattle.kernel_text.specs.{KernelReads.{KernelContent, KernelReads}, KernelText.{format_of, kernel_text}, declared.member.Member.{Member}}
 use Rattle.kernel_text.specs.Images as stored
-use Rattle.kernel_text.specs.Serving.{CoinstStored, ServesStored, images_in}
+use Rattle.kernel_text.specs.Serving.{images_in}
 use Rattle.kernel_text.proofs.StoredReading.{one_reading}
 use Rattle.listed.specs.Lists.{In, has}
 use Rattle.listed.proofs.Lists.{In_at, filter_cases}
 use Rattle.relation_fields.specs.declared.packages.PackageFacts.{PackageFacts}
 use Rattle.repo_model.specs.{FirstFault.{first_fault}, Goals.{CoinstGoals, is_named_by, packages_named}, Repository.{packages_of, suite_repository}}
 use Rattle.repo_model.specs.{Stanzas.{no_stanza, stanza_at}, declared.goals.Goal.{Goal}}
-use Rattle.repo_model.proofs.{Accepted.{Accepted}, Elements.{range_cases}}
-use Rattle.row_book.specs.{Repository.{Healthy, Repository}, Rounds.{kernel, kernel_held}, Sets.{NumSet}}
+use Rattle.repo_model.proofs.Elements.{range_cases}
+use Rattle.row_book.specs.Rounds.{kernel}
 use Rattle.search_terms.specs.{Form.{form}, Tree.{Tree, failed_leaves, found_of}, declared.literals.Literal.{Literal}}
-use Rattle.suite_compare.specs.{Asking.{asked_tree, images_of, tree_of}, Refusals.{home_in, packages_in}}
-use Rattle.suite_compare.proofs.Deciding.{asked_is, named_parts}
-use Rattle.claims.specs.{Answers.{printed_classes, printed_installation, printed_no, printed_undecided}, Asked.{ComparedIndex}}
-use Rattle.claims.specs.{Certificates.{HasClassOfEach, IsTooLong, Refutes}, Goals.{CanMeet, HasEach}, Laws.{kernel_printed, suite_of}}
-use Rattle.claims.specs.{Settled.{IsKernelText, IsPastBudget, IsWithinBudget}, Search.{Searched}}
+use Rattle.suite_compare.specs.{Asking.{asked_tree, tree_of}, Refusals.{home_in, packages_in}}
+use Rattle.suite_compare.proofs.Deciding.{named_parts}
+use Rattle.claims.specs.{Asked.{ComparedIndex}, Certificates.{HasClassOfEach, IsTooLong}, Goals.{CanMeet, HasEach, all_stanzas}}
+use Rattle.claims.specs.{Laws.{kernel_printed, suite_of}, Settled.{IsKernelText, IsPastBudget}, Search.{Searched}}
 use Rattle.claims.specs.Sentences.{IsFaithfulAnswer, IsFaithfulStoredAnswer, KernelIsSettled, QueryIsTrue, StoredQueryIsTrue}
 use Rattle.claims.specs.Sentences.IsFaithfulAnswer.{yes as answer_yes, no as answer_no, undecided as answer_undecided}
 use Rattle.claims.specs.Sentences.IsFaithfulStoredAnswer.{yes as classes_yes, no as classes_no, undecided as classes_undecided}
-use Rattle.claims.proofs.{AskingWords.{query_words_ask, stored_words_ask}, Goals.{AreGoals, goal_for, names_from}, Index.{indexes_are_read}}
+use Rattle.claims.proofs.{AskingWords.{query_words_ask, stored_words_ask}, Budget.{asked_for, in_time as within_budget, past_from}, Goals.{AreGoals, goal_for, names_from}, Index.{indexes_are_read}}
 use Rattle.claims.proofs.{KernelTexts.{asked_is_one, asks_this, member_below}, Meeting.{can_meet, each_from, meets_goals, says_named}}
 use Rattle.claims.proofs.{PrintedKernels.{kernel_texts_are_there}, Search.{searches_are_one, trees_are_searches}}
 use Rattle.claims.proofs.{StoredAsking.{classes_from, classes_to, index_meets, stored_asks, stored_meets}, Words.{kernel_words_ask}}
 use Rattle.coinst_run.specs.{Status.{code_of, verdict_status}, declared.answer.ReportVerdict.{ReportVerdict}}
 use Rattle.coinst_run.specs.{declared.answer.ReportVerdict.TheVariants.{Done, Negative, Undecided}, KernelMeaning.{KernelMeans}}
 use Rattle.coinst_run.specs.{IndexKernel.{classed_kernel, index_kernel, members_for}, Meaning.{IsMeant, MeansJob}}
-use Rattle.coinst_run.specs.{QueryMeaning.{MeansVerdict, NoMeans, QueryMeans, UndecidedMeans, YesMeans}, QueryText.{no_text, undecided_text, yes_text}}
-use Rattle.coinst_run.specs.{StoredMeaning.{MeansStored, StoredMeans, StoredNo, StoredUndecided, StoredYes}, StoredQuery.{listed_classes}}
+use Rattle.coinst_run.specs.{QueryMeaning.{MeansVerdict, NoMeans, QueryMeans, YesMeans}, QueryText.{no_text, undecided_text, yes_text}}
+use Rattle.coinst_run.specs.StoredMeaning.{MeansStored, StoredMeans, StoredNo, StoredUndecided, StoredYes}
 use Rattle.coinst_run.proofs.{QueryMeant.{formed}, StoredMeant.{is_tree}}
 
 -- the printed kernel is the text of the kernel
@@ -74,17 +73,8 @@ module _ (text : Text) (budget limit : ℕ) (hold : Bool) (words : List Text) (g
   pub named : (n : ℕ) → n < length (packages_in text) → is_name (stanza_at (packages_in text) n).name ≡ true
   named n l = ((formed text accepted).named (stanza_at (packages_in text) n) (In_at (packages_in text) n no_stanza l)).name
 
-  pub in_time : failed_leaves (asked_tree limit hold (home_in text) (packages_in text) goals) ≤ budget → IsWithinBudget index words
-  in_time few stored k long =
-      let K : Repository = kernel limit hold (suite_repository (home_in text) (packages_in text)) in
-      let formula = form K (images_of limit hold (home_in text) (packages_in text) goals) in
-      let tree = asked_tree limit hold (home_in text) (packages_in text) goals in
-      let is : long.0 ≡ formula = asked_is_one stored words long.0 formula long.1 (asks_this index stored k words goals z) in
-      let there : Searched formula [] long.2.0 long.2.1 = subst (λ f. Searched f [] long.2.0 long.2.1) is long.2.2 in
-      let own : Searched formula [] (is_some (found_of tree)) (failed_leaves tree) = trees_are_searches (length K.clauses) formula tree (asked_is (home_in text) (packages_in text) limit hold goals) in
-      let same : long.2.1 ≡ failed_leaves tree = (searches_are_one formula [] long.2.0 (is_some (found_of tree)) long.2.1 (failed_leaves tree) there own).1 in
-      let past : budget < long.2.1 = long.2.3 in
-      omega (arith, few, same, past)
+  pub in_time : failed_leaves (asked_tree limit hold (home_in text) (packages_in text) goals) ≤ budget → ¬ (IsPastBudget index words)
+  in_time few = within_budget (searched text budget limit hold) words goals z few
 
   yes_so : (printed : Text) → YesMeans text goals budget limit hold printed → IsFaithfulAnswer index words 0 printed
   unfolding yes_text
@@ -95,23 +85,13 @@ module _ (text : Text) (budget limit : ℕ) (hold : Bool) (words : List Text) (g
 
   no_so : (printed : Text) → NoMeans text goals budget limit hold printed → IsFaithfulAnswer index words 1 printed
   unfolding no_text
-  no_so printed n = answer_no refl n.log n.reads (in_time n.within) (cannot n.refuted) (λ stored k. (form (kernel limit hold (suite_repository (home_in text) (packages_in text))) (images_of limit hold (home_in text) (packages_in text) goals), asks_this index stored k words goals z, n.derives))
+  no_so printed n =
+      let stored : Text = kernel_printed limit hold (home_in text) (packages_in text) in
+      let there : IsKernelText index stored = kernel_texts_are_there (searched text budget limit hold) accepted in
+      answer_no refl n.log n.reads (in_time n.within) (cannot n.refuted) (stored, there, (asked_for (searched text budget limit hold) words goals z, asks_this index stored there words goals z, n.derives))
 
-  too_long : budget < failed_leaves (asked_tree limit hold (home_in text) (packages_in text) goals) → (stored : Text) → IsKernelText index stored → IsTooLong stored words budget
-  too_long spent stored k =
-      let K : Repository = kernel limit hold (suite_repository (home_in text) (packages_in text)) in
-      let formula = form K (images_of limit hold (home_in text) (packages_in text) goals) in
-      let tree = asked_tree limit hold (home_in text) (packages_in text) goals in (
-        formula,
-        asks_this index stored k words goals z,
-        (is_some (found_of tree), failed_leaves tree, trees_are_searches (length K.clauses) formula tree (asked_is (home_in text) (packages_in text) limit hold goals), spent),
-      )
-
-  -- there is such a text
   pub past : budget < failed_leaves (asked_tree limit hold (home_in text) (packages_in text) goals) → IsPastBudget index words
-  past spent =
-      let there : IsKernelText index (kernel_printed limit hold (home_in text) (packages_in text)) = kernel_texts_are_there (searched text budget limit hold) accepted in
-      (kernel_printed limit hold (home_in text) (packages_in text), there, too_long spent (kernel_printed limit hold (home_in text) (packages_in text)) there)
+  past spent = past_from (searched text budget limit hold) words goals z accepted spent
 
   answered_so : (verdict : ReportVerdict) (printed : Text) → MeansVerdict text goals budget limit hold verdict printed → IsFaithfulAnswer index words (code_of (verdict_status verdict)) printed
   unfolding undecided_text
@@ -119,7 +99,7 @@ module _ (text : Text) (budget limit : ℕ) (hold : Bool) (words : List Text) (g
   answered_so Negative printed m = no_so printed m
   answered_so Undecided printed m = answer_undecided refl m.reads (past m.spent)
 
-  pub all_known : ((goal : Goal) → In goal goals → (n : ℕ) × In n (packages_named (packages_in text) goal)) → HasEach (packages_in text) (λ n. nat_lt n (length (packages_in text))) words
+  pub all_known : ((goal : Goal) → In goal goals → (n : ℕ) × In n (packages_named (packages_in text) goal)) → HasEach (packages_in text) (all_stanzas (packages_in text)) words
   all_known known word i =
       let g = goal_for words goals z word i in
       let n = known g.0 g.1 in

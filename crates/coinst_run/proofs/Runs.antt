@@ -218,7 +218,7 @@ module _ {F : Type 0} {M : ShelfModel F} where
         readings = led.readings;
         printed = report;
         was_read = led.was_read;
-        told = led.told;
+        contents_say = led.told;
         was_written = sent;
         took = took;
         holds = to led.readings report (record { job = job; asked = asked; means = report_means job led.readings verdict report led.gives });
@@ -235,7 +235,7 @@ module _ {F : Type 0} {M : ShelfModel F} where
         readings = led.readings;
         line = line;
         was_read = led.was_read;
-        told = led.told;
+        contents_say = led.told;
         same = same;
         said = said;
         job = job;

@@ -1,7 +1,7 @@
 -- The sentence of `status`, from what its report means.
-use Rattle.std.proofs.Common.{◌≡◌, ℕ, zero, suc, ◌+◌, ◌-◌, ◌<◌, ◌≤◌, Bool, true, false, not, cond, ◌&&◌, eqb, List, [], ◌∷◌, ◌++◌, Option, Some, None, filter, length, map, slice_index_or, refl, sym, ap, ap₂, subst, ◌∙◌, arith, inl, inr, eqb-true}
+use Rattle.std.proofs.Common.{◌≡◌, ℕ, zero, suc, ◌+◌, ◌-◌, ◌<◌, Bool, true, false, not, cond, eqb, List, [], ◌∷◌, ◌++◌, Some, None, filter, length, map, refl, sym, ap, ap₂, subst, ◌∙◌, arith, inl, inr, eqb-true}
 use Rattle.std.proofs.{lemmas.Bool.{and_from, and_parts, cases_Bool}, lemmas.List.{length-map}}
-use Rattle.std.specs.{Prelude.{codes, count_by, unwrap_or}, Fmt.{decimal}, List.{flat_map, list_any}, Ordering.{is_eq}, Str.{bytes_eq}}
+use Rattle.std.specs.{Prelude.{codes, count_by, unwrap_or}, Fmt.{decimal}, List.{flat_map}, Ordering.{is_eq}, Str.{bytes_eq}}
 use Rattle.byte_flow.specs.History.{OpenedFile}
 use Rattle.clause_solver.specs.{declared.outcomes.Verdict.{Verdict}, declared.outcomes.Verdict.TheVariants.{Yes, No, Spent}}
 use Rattle.coinst_words.specs.{Jobs.{job_of}, Usage.{Text}, declared.job.Job.TheVariants.{Status}}
@@ -11,12 +11,10 @@ use Rattle.kernel_text.specs.KernelLines.{with_feed}
 use Rattle.listed.specs.Lists.{In, here, there}
 use Rattle.listed.proofs.{Bools.{same_bool}, Lists.{In_at, In_place, any_cases, any_from, filled, filter_cases, filter_same, same_bytes, some_item}}
 use Rattle.relation_fields.specs.declared.packages.PackageFacts.{PackageFacts}
-use Rattle.repo_model.specs.{FirstFault.{first_fault}, Goals.{CoinstGoals, goal_of, is_named_by, packages_named}, Stanzas.{no_stanza, stanza_at}}
-use Rattle.repo_model.specs.declared.goals.Goal.{Goal}
+use Rattle.repo_model.specs.{FirstFault.{first_fault}, Goals.{goal_of, is_named_by, packages_named}, Stanzas.{no_stanza, stanza_at}, declared.goals.Goal.{Goal}}
 use Rattle.repo_model.proofs.Accepted.{Accepted, accepted}
-use Rattle.status_check.specs.{Own.{foreign_count, own_home, own_packages}, Report.{goal_for, had_goals, is_had, line_for, state_of}}
-use Rattle.status_check.specs.{declared.report.HaveLine.{HaveLine}, declared.report.OwnState.{OwnState}, declared.report.StatusReport.{StatusReport}}
-use Rattle.status_check.specs.declared.report.SuiteState.{SuiteState}
+use Rattle.status_check.specs.{Own.{own_home, own_packages}, Report.{goal_for, had_goals, is_had, line_for, state_of}, declared.report.HaveLine.{HaveLine}}
+use Rattle.status_check.specs.{declared.report.OwnState.{OwnState}, declared.report.StatusReport.{StatusReport}, declared.report.SuiteState.{SuiteState}}
 use Rattle.status_check.specs.declared.report.OwnState.TheVariants as state
 use Rattle.status_check.specs.declared.report.SuiteState.TheVariants as suite
 use Rattle.suite_compare.specs.{Asking.{HasVerdict, verdict_in}, Refusals.{home_in, packages_in}}
@@ -27,7 +25,7 @@ use Rattle.claims.specs.{Sentences.{IsFaithfulSystem, IsSuiteAnswer, StatusIsTru
 use Rattle.claims.proofs.{AskingWords.{status_words_ask}, Goals.{AreGoals, goal_cut}, Index.{indexes_are_read}, Meeting.{can_meet}, Members.{text_same}}
 use Rattle.claims.proofs.Systems.{Tells, state_of_all, tells}
 use Rattle.coinst_run.specs.{Meaning.{IsMeant, MeansJob}, SystemMeaning.{SystemMeans}, Lines.{end_text}}
-use Rattle.coinst_run.specs.SystemText.{have_text, is_had as line_had, is_lacking, line_at, no_line, own_text, suite_text, system_text, system_verdict}
+use Rattle.coinst_run.specs.SystemText.{have_text, is_had as line_had, is_lacking, line_at, own_text, suite_text, system_text, system_verdict}
 use Rattle.coinst_run.specs.{Status.{code_of, verdict_status}, declared.answer.ReportVerdict.{ReportVerdict}}
 use Rattle.coinst_run.proofs.QuerySentences.{cannot, in_time, named_inside, past}
 
@@ -193,14 +191,14 @@ module _ (text : Text) (budget limit : ℕ) (hold : Bool) (fine : first_fault te
         groups = t.groups;
         home = own_home home file;
         own = own;
-        says = t.says;
+        own_say = t.says;
         state = report.own;
-        stands = state_of_all (own_home home file) own report.own k.own;
+        state_is = state_of_all (own_home home file) own report.own k.own;
         answer = suite_status report.verdict;
         suite = suite_words report.verdict;
-        asked = answer;
-        ends = ap (λ v. code_of (verdict_status v)) k.whole ∙ ends_same report.own report.verdict;
-        reads = k.reads ∙ same;
+        answer_is = answer;
+        status_is = ap (λ v. code_of (verdict_status v)) k.whole ∙ ends_same report.own report.verdict;
+        bytes_are = k.reads ∙ same;
       }
 
 pub status_is_true : (words : List Text) (readings : List OpenedFile) (verdict : ReportVerdict) (printed : Text) → IsMeant words readings verdict printed → StatusIsTrue words readings (code_of (verdict_status verdict)) printed

@@ -6,7 +6,7 @@ use Rattle.coinst_run.specs.{declared.answer.Cause.{Cause}, declared.answer.Caus
 use Rattle.coinst_run.specs.{declared.answer.ReportVerdict.{ReportVerdict}, declared.status.Status.{Status}, Status.{code_of, verdict_status}, Answer.{refused}}
 use Rattle.coinst_run.specs.{Meaning.{course_of}, Outcome.{Gives, file_limit}}
 
--- These files were read one after another, each whole, by these calls of the shelf and no others: each is a path, and the text that
+-- These files were read one after another, each whole, by these calls of the shelf and no others. Each is a path, and the text that
 -- the reads of its reading handed over.
 pub data HasRead {S : Type 0} (M : ShelfModel S) : S → List OpenedFile → S → Type 0 where
   no_file : (s : S) → HasRead M s [] s
@@ -17,13 +17,13 @@ abbrev pub AreOf : Files → List OpenedFile → Type 0
 AreOf files [] = ⊤
 AreOf files (r ∷ readings) = (files r.0 ≡ Some r.1) × AreOf files readings
 
--- A run did nothing to the shelf but read these files whole, and nothing to the sink but write these bytes whole; and this holds of what it read
+-- A run did nothing to the shelf but read these files whole, and nothing to the sink but write these bytes whole. This holds of what it read
 -- and of the bytes. If the shelf says its contents, they have these texts, and if the sink says what it took, it took these bytes.
 pub record Reports {S O : Type 0} (M : ShelfModel S) (N : SinkModel O) (old new : S) (out out_after : O) (P : List OpenedFile → List ℕ → Type 0) : Type 0 where
   pub readings : List OpenedFile
   pub printed : List ℕ
   pub was_read : HasRead M old readings new
-  pub told : IfSome (M.contents old) (λ files. AreOf files readings)
+  pub contents_say : IfSome (M.contents old) (λ files. AreOf files readings)
   pub was_written : Sent N out printed out_after []
   pub took : Appends (N.taken out) (N.taken out_after) printed
   pub holds : P readings printed
@@ -39,21 +39,21 @@ IsOfText ClauseLimit = ⊤
 IsOfText UnknownGoal = ⊤
 IsOfText TooLarge = ⊥
 
--- A run read these files whole, and refused what it read: this line is where the course of its job leads. It wrote nothing to the first sink, and
+-- A run read these files whole, and refused what it read: the course of its job leads to this line. It wrote nothing to the first sink, and
 -- the line to the second one.
 pub record Refuses {S O : Type 0} (M : ShelfModel S) (old new : S) (out out_after : O) (words : List (List ℕ)) (cause : Cause) (Line : List ℕ → Type 0) : Type 0 where
   pub readings : List OpenedFile
   pub line : List ℕ
   pub was_read : HasRead M old readings new
-  pub told : IfSome (M.contents old) (λ files. AreOf files readings)
+  pub contents_say : IfSome (M.contents old) (λ files. AreOf files readings)
   pub same : out_after ≡ out
   pub said : Line line
   pub job : Job
   pub asked : job_of words ≡ Some job
   pub leads : Gives (course_of job) readings (refused cause line)
 
--- The same by what was noted of the calls of the system: the files that were opened, the newest first, each with the bytes that its
--- reads handed over, and the bytes that the writes took.
+-- The same by what was noted of the calls of the system. These are the files that were opened, the newest first, each with the bytes that its
+-- reads handed over; and the bytes that the writes took.
 pub record Noted (handed handed_after : List OpenedFile) (passed_on passed_on_after : List ℕ) (P : List OpenedFile → List ℕ → Type 0) : Type 0 where
   pub readings : List OpenedFile
   pub printed : List ℕ

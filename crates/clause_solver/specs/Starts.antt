@@ -1,3 +1,4 @@
+-- for the bodies of this crate alone
 -- Where the search for the first open need starts.
 use Rattle.std.specs.Prelude.{◌≡◌, ℕ, ◌<◌, ◌≤◌, Bool, true, false, List, [], ◌∷◌, ◌++◌, All, Contains, length, take, slice_index_or, ◌⊎◌}
 use Rattle.search_terms.specs.{declared.literals.Literal.{Literal}, Marks.{flag_place}, Tree.{is_open_need}}

@@ -155,7 +155,7 @@ StatusIsTrue words readings status printed = (budget limit : Option ℕ) (hold :
 
 -- `migrate`. There is a line for each name that differs, in order. A name is taken if the mix with it and the names taken before is within the clause
 -- limit, and its comparison with the older index has no lines. It is left if the mix passes the limit, or else for the first line of that comparison.
--- In the mix of all that are taken, no two names that could be installed in the older index are lost, and no name, which is twice the same one.
+-- In the mix of all that are taken, any two names that could be installed together in the older index still can. The two may be the same name.
 abbrev pub IsRightStep : ComparedIndex → ComparedIndex → PlanLine → Type 0
 IsRightStep old mix (Take name) = (¬ (PassesOnTheWay mix.limit mix.hold (suite_repository mix.home mix.stanzas))) × IsFaithfulList old mix []
 IsRightStep old mix (LeftLimit name) = PassesOnTheWay mix.limit mix.hold (suite_repository mix.home mix.stanzas)

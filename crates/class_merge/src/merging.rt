@@ -39,7 +39,7 @@ pub fn merge(alloc: Global, pool: &mut Pool, book: &Book) -> Result<Merged, Allo
 }
 
 /// The merged book of the packages of a mask, over a pool of its own, with the class of each of them in the numbers of all packages. Packages with
-/// the same clauses and the same conflicts with packages of the mask become one class. The class of a package that is not in the mask is 0.
+/// the same clauses and the same conflicts with packages of the mask become one class. That of a package that is not in the mask says nothing.
 pub fn merge_chosen(
     alloc: Global,
     pool: &mut Pool,

@@ -1,4 +1,4 @@
--- What is known of the rounds behind the first, and what is told by it.
+-- What is known of the rounds after the first, and what follows from it.
 use Rattle.std.specs.Prelude.{◌≡◌, ℕ, Bool, true, false, List, length, map, None}
 use Rattle.class_merge.specs.{Classes.{class_in}, Masks.{masked_repository}, declared.masked.MaskedRows.{MaskedRows}}
 use Rattle.row_book.specs.{Book.{repository_of, Sound}, Flags.{flag}, Flattening.{flat, packages, passes}, Parts.{part, place_in}, Repository.{Repository}}

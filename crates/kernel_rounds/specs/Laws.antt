@@ -135,7 +135,7 @@ pub record SameWithoutHold (limit other : ℕ) (R : Repository) : Type 0 where
 abbrev pub LimitWithoutHold : Type 0
 LimitWithoutHold = (limit other : ℕ) → (R : Repository) → SameWithoutHold limit other R
 
--- if no round without hold passes the limit, hold changes nothing
+-- if no round without hold passes the limit, hold changes neither the kernel nor a class
 pub record HoldUnused (limit : ℕ) (R : Repository) : Type 0 where
   pub same : kernel limit true R ≡ kernel limit false R
   pub classes : (p : ℕ) → kernel_class limit true R p ≡ kernel_class limit false R p

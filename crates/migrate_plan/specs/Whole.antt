@@ -55,8 +55,8 @@ abbrev pub classes_made : MadeKernel → List ℕ
 classes_made (Own pool kernel class_of) = class_of.items
 classes_made (Beside classified rows) = classified.class_of
 
--- the kernel of a mix, which is the part of the whole that has these flags, at a clause limit, with hold or without, where no round passes the
--- limit; and the class of each package of the mix, in the numbers of the whole
+-- The kernel of a mix, which is the part of the whole that has these flags, at a clause limit, with hold or without. No round passes the
+-- limit. And the class of each package of the mix, in the numbers of the whole.
 pub record IsMadeKernel (limit : ℕ) (hold : Bool) (W : Repository) (flags : List Bool) (made : MadeKernel) : Type 0 where
   pub within : limit_at limit hold (part flags W) ≡ None
   pub book_is : IsBookOf (pool_made made) (book_made made) (kernel limit hold (part flags W))

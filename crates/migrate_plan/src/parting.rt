@@ -116,7 +116,7 @@ fn kernel_in(
     }
 }
 
-// The same, by what is known of a part of the whole. If no row of the mix passes the limit without hold, hold changes nothing.
+// The same, by what is known of a part of the whole. If no row of the mix passes the limit without hold, hold changes neither the kernel nor a class.
 fn kernel_by(
     alloc: Global,
     whole: &Whole,

@@ -7,7 +7,7 @@ use Rattle.row_book.specs.{Sound.{SoundRepository}, Support.{row}, Book.{listed_
 use Rattle.row_book.specs.Parts.{clauses_in, numbers_up, part, place_in, row_in}
 use Rattle.suite_part.specs.{Bases.{row_of_part, AreChanged, IsBase}, declared.base.Base.{Base}, declared.small.SmallBook.{SmallBook}}
 
--- packages of a mix that are needed, with all that they need there, and beside them for each that has conflicts there one that it conflicts with
+-- packages of a mix that are needed, with all that they need there, and beside them for each that has conflicts there at least one that it conflicts with
 pub record AreApart (W : Repository) (flags needed apart : List Bool) : Type 0 where
   pub whole : SoundRepository W
   pub size : length flags ≡ length W.clauses
@@ -25,8 +25,8 @@ pub record IsSmall (W : Repository) (needed apart : List Bool) (S : Repository) 
   pub rows : (x : ℕ) → flag needed x ≡ true → clauses_of S (place_in apart x) ≡ row_in apart (clauses_of W x)
   pub none : (x : ℕ) → flag apart x ≡ true → flag needed x ≡ false → clauses_of S (place_in apart x) ≡ []
 
--- their rows in it, in the numbers of all packages, are those of the mix; it is within the limit if the mix is, and if it is, so are their rows
--- in the mix
+-- Their rows in it, in the numbers of all packages, are those of the mix. It is within the limit if the mix is. If it is, so are their rows
+-- in the mix.
 pub record TellsOfMix (limit : ℕ) (W : Repository) (flags needed apart : List Bool) (S : Repository) : Type 0 where
   pub rows : (x : ℕ) → flag needed x ≡ true → clauses_in (numbers_up apart) (row S (core_of limit false S) (place_in apart x)) ≡ row_of_part limit flags W x
   pub passes_not : passes limit false (part flags W) ≡ None → passes limit false S ≡ None

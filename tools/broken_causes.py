@@ -18,7 +18,7 @@ from needs import Needs
 
 MOST_CHANGES = 12  # of one cause
 MOST_TRIES = 40  # for the lines that a cause does not mend
-MOST_BYTES = 200_000_000  # of slices that are tried for all such lines; trixie to sid takes a fourth of it
+MOST_BYTES = 60_000_000  # of slices that are tried for all such lines; trixie to sid takes a third of it
 
 
 def names_of(lines: Iterable[Line]) -> tuple[str, ...]:
@@ -55,11 +55,11 @@ class Asking:
         old, new = self.keep("mended", index.slice(names, strike)), self.keep("slice", index.slice(names, before))
         return set(self.compare(old, new)[1]).intersection(lines)
 
-    def confirms(self, lines: Sequence[Line], index: Index) -> bool:
-        """Whether the lines are broken in the slice, judged against an index in which each name is bare."""
+    def confirmed(self, lines: Sequence[Line], index: Index) -> set[Line]:
+        """Which of the lines are broken in the slice, judged against an index in which each name is bare."""
         names = names_of(lines)
         bare = "\n".join("Package: %s\nVersion: 1\n" % name for name in names)
-        return set(self.compare(self.keep("mended", bare), self.keep("slice", index.slice(names)))[1]).issuperset(lines)
+        return set(self.compare(self.keep("mended", bare), self.keep("slice", index.slice(names)))[1]).intersection(lines)
 
 
 class Cause:
@@ -120,6 +120,31 @@ def way_lines(way: Sequence[Step]) -> list[str]:
     return lines
 
 
+class Below:
+    """Which of the lines others hold: if the names of one cannot do without those of another, what holds that one holds both."""
+
+    def __init__(self, lines: Iterable[Line], needs: Needs):
+        self.needs = needs
+        self.having: dict[str, list[Line]] = collections.defaultdict(list)
+        for line in lines:
+            for name in line:
+                self.having[name].append(line)
+
+    def forced(self, line: Line) -> frozenset[str]:
+        return frozenset().union(*map(self.needs.forced, line))
+
+    def lowest(self, line: Line) -> Line:
+        """A line that the names of this one cannot do without, and that none is below; it is this one if there is none."""
+        inside = self.forced(line)
+        for name in sorted(inside & self.having.keys()):
+            for other in self.having[name]:
+                if other != line and inside.issuperset(other):
+                    under = self.forced(other)
+                    if (len(under), other) < (len(inside), line):
+                        return self.lowest(other)
+        return line
+
+
 class Search:
     """Looks for the causes of the broken lines of two indexes."""
 
@@ -160,11 +185,15 @@ class Search:
         under: dict[Clash, set[Line]] = {}
         several: dict[Line, list[Clash]] = {}
         seen: set[Line] = set()
+        below, told = Below(lines, self.needs), {}
         for place, line in enumerate(lines):
             if line in seen:
                 continue
             progress("explaining, line %d of %d: %s" % (place + 1, len(lines), " ".join(line)))
-            clashes = self.asking.explain(self.new, line)
+            lowest = below.lowest(line)
+            if lowest not in told:
+                told[lowest] = self.asking.explain(self.new, lowest)
+            clashes = told[lowest]
             covered = self.covered(clashes[0], lines) if len(clashes) == 1 else set()
             if line in covered:
                 under[clashes[0]] = covered
@@ -203,6 +232,7 @@ class Search:
         for place, cause in enumerate(todo, 1):
             progress("trying cause %d of %d" % (place, len(todo)))
             rests.append(self.try_cause(cause))
+        self.confirm([cause for cause, rest in zip(todo, rests) if rest])
         self.limit = self.asking.written + MOST_BYTES
         for cause, rest in zip(todo, rests):
             self.sort_rest(cause, rest)
@@ -212,8 +242,18 @@ class Search:
         lines = sorted(cause.lines)
         cause.mended |= self.asking.mends(lines, self.new, cause.strike()) if cause.strike() else set()
         rest = set(lines) - cause.mended
-        cause.confirmed = not rest or self.asking.confirms(lines, self.new)
+        cause.confirmed = not rest
         return rest
+
+    def confirm(self, causes: Sequence[Cause]) -> None:
+        """Has the lines of causes confirmed that do not mend them all: names in one run, since of names that are dead no pairs are tried."""
+        names = sorted({line for cause in causes for line in cause.lines if len(line) == 1})
+        found = self.asking.confirmed(names, self.new) if names else set()
+        for cause in causes:
+            others = sorted(line for line in cause.lines if len(line) > 1)
+            if others:
+                found |= self.asking.confirmed(others, self.new)
+            cause.confirmed = found.issuperset(cause.lines)
 
     def sort_rest(self, cause: Cause, rest: set[Line]) -> None:
         for _ in range(MOST_TRIES):

@@ -75,10 +75,10 @@ class SetAsking(Asking):
         names, stand = names_of(lines), self.standing(lines, index)
         return self.lost(lines, index.slice(names, strike) + stand, index.slice(names, before) + stand)[0].intersection(lines)
 
-    def confirms(self, lines: Sequence[Line], index: Index) -> bool:
+    def confirmed(self, lines: Sequence[Line], index: Index) -> set[Line]:
         names = names_of(lines)
         bare = "\n".join("Package: %s\nVersion: 1\n" % name for name in names) + self.standing(lines, None)
-        return self.lost(lines, bare, index.slice(names) + self.standing(lines, index))[0].issuperset(lines)
+        return self.lost(lines, bare, index.slice(names) + self.standing(lines, index))[0].intersection(lines)
 
     def dead(self, lines: Sequence[Line], index: Index) -> tuple[set[Line], set[Line]]:
         """Which of the lines the index cannot install, and which are open; the names that stand for them conflict, so no pairs are tried."""
@@ -135,6 +135,7 @@ class SetSearch:
         kernels = [Kernel(program.ask("kernel", index.path)[1]) for index in (old, new)]
         self.found, self.naming = Lost(*kernels), Naming(kernels[1], new)
         self.asking = SetAsking(program, folder, (old, new))
+        self.name_of = functools.lru_cache(None)(self.name_of)
         self.sets = self.found.sets()
         self.lines = {kinds: self.line_of(kinds) for kinds in self.sets}
         self.open: list[Kinds] = []

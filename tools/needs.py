@@ -30,6 +30,7 @@ class Needs:
         self.living = {element: sum(p not in self.dead for p in index.meeting(element)) for element in self.owners}
         self.leading_to = functools.lru_cache(None)(lambda goals: self.spread(goals, ()))
         self.names_leading_to = functools.lru_cache(None)(self.names_leading_to)
+        self.forced = functools.lru_cache(None)(self.forced)
 
     def elements(self, package):
         struck = self.strike.get(package, ())
@@ -60,6 +61,17 @@ class Needs:
     def names_leading_to(self, goals):
         why = self.leading_to(goals)
         return {p.name for p in why if all(q in why for q in self.index.named[p.name])}
+
+    def forced(self, name):
+        """A name, and those that it cannot do without as one living package alone meets an element; there may be others."""
+        packages = self.index.named[name]
+        inside, todo = {name}, packages if len(packages) == 1 else []
+        while todo:
+            meeting = (self.index.meeting(element) for package in todo for element in self.elements(package))
+            living = ([package for package in some if package not in self.dead] for some in meeting)
+            todo = list({some[0].name: some[0] for some in living if len(some) == 1 and some[0].name not in inside}.values())
+            inside.update(package.name for package in todo)
+        return frozenset(inside)
 
     def chain_from(self, package, why):
         """Steps (package, element, how many packages meet it); the last element is None at a goal, or one that nobody meets."""

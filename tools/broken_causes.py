@@ -25,6 +25,17 @@ def names_of(lines: Iterable[Line]) -> tuple[str, ...]:
     return tuple(sorted({name for line in lines for name in line}))
 
 
+def all_broken(lines: Iterable[Line], names: Sequence[str]) -> str:
+    """The text of an index in which just these lines, of one name or two, are broken."""
+    against = collections.defaultdict(list)
+    for one, *other in lines:
+        against[one] += other
+    nothing = names[-1] + "-none"  # it comes after the last of the names, so it is none of them
+    relations = {name: "Conflicts: %s\n" % ", ".join(others) for name, others in against.items() if others}
+    relations.update({line[0]: "Depends: %s\n" % nothing for line in lines if len(line) == 1})
+    return "\n".join("Package: %s\nVersion: 1\n%s" % (name, relations.get(name, "")) for name in names)
+
+
 class Asking:
     """The program, asked about slices of an index."""
 
@@ -49,10 +60,17 @@ class Asking:
         package = {(p.name, p.version): p for p in index.reach(names)}
         return [(package[w[1], w[2]], package[w[3], w[4]]) for w in answer if w[0] in ("clash", "clash-open")]
 
-    def mends(self, lines: Iterable[Line], index: Index, strike: Strike, before: Strike | None = None) -> set[Line]:
-        """Which of the lines are well in the slice once this is taken out, and not before: the program's word."""
+    def mends(self, lines: Iterable[Line], index: Index, strike: Strike) -> set[Line]:
+        """Which of the lines are well in the slice once this is taken out, and broken before: the program's word."""
         names = names_of(lines)
-        old, new = self.keep("mended", index.slice(names, strike)), self.keep("slice", index.slice(names, before))
+        old, new = self.keep("mended", index.slice(names, strike)), self.keep("slice", index.slice(names))
+        return set(self.compare(old, new)[1]).intersection(lines)
+
+    def well(self, lines: Iterable[Line], index: Index, strike: Strike) -> set[Line]:
+        """Which of the lines are well in the slice once this is taken out, if it is known that they are broken before."""
+        lines = set(lines)
+        names = names_of(lines)
+        old, new = self.keep("mended", index.slice(names, strike)), self.keep("slice", all_broken(lines, names))
         return set(self.compare(old, new)[1]).intersection(lines)
 
     def confirmed(self, lines: Sequence[Line], index: Index) -> set[Line]:
@@ -175,10 +193,10 @@ class Search:
 
     # Lines that conflicts hold
 
-    def covered(self, clash: Clash, lines: Iterable[Line]) -> set[Line]:
+    def covered(self, clash: Clash, below: Below) -> set[Line]:
         """The lines whose names cannot do without both packages."""
-        ends = [self.needs.names_leading_to((end,)) for end in clash]
-        return {line for line in lines if not any(end.isdisjoint(line) for end in ends)}
+        ends = sorted((self.needs.names_leading_to((end,)) for end in clash), key=len)
+        return {line for name in ends[0] & below.having.keys() for line in below.having[name] if not ends[1].isdisjoint(line)}
 
     def explain_all(self, lines: Sequence[Line]) -> tuple[dict[Clash, set[Line]], dict[Line, list[Clash]]]:
         """Conflicts, each with the lines that it covers; and the lines that no single conflict holds, with theirs."""
@@ -194,7 +212,7 @@ class Search:
             if lowest not in told:
                 told[lowest] = self.asking.explain(self.new, lowest)
             clashes = told[lowest]
-            covered = self.covered(clashes[0], lines) if len(clashes) == 1 else set()
+            covered = self.covered(clashes[0], below) if len(clashes) == 1 else set()
             if line in covered:
                 under[clashes[0]] = covered
                 seen |= covered
@@ -269,7 +287,7 @@ class Search:
         if not further:
             return {line}
         reasons = self.trimmed(line, cause.lines[line] + further)
-        mended = self.asking.mends(sorted(rest), self.new, merged(reason.change.strike for reason in reasons))
+        mended = self.asking.well(rest, self.new, merged(reason.change.strike for reason in reasons))
         for moved in sorted(mended):
             own = {reason.change.key: reason for reason in cause.lines.pop(moved)}
             together = self.put(moved, [own.get(reason.change.key, reason) for reason in reasons])
@@ -289,7 +307,7 @@ class Search:
                 return []
             reasons.append(reason)
             strike = merged([strike, reason.change.strike])
-            if self.asking.mends([line], self.new, strike):
+            if self.asking.well([line], self.new, strike):
                 return reasons
         return []
 
@@ -307,7 +325,7 @@ class Search:
         """The reasons, less those without which the line is mended too."""
         for reason in list(reasons):
             others = [other for other in reasons if other is not reason]
-            if others and self.asking.mends([line], self.new, merged(other.change.strike for other in others)):
+            if others and self.asking.well([line], self.new, merged(other.change.strike for other in others)):
                 reasons = others
         return reasons
 

@@ -14,7 +14,7 @@ from collections.abc import Iterable, Iterator
 
 from broken_records import Conflict, Line, Moved, Relation, Source, Step, Why
 from debian_index import AGAINST, NEED, Index, Package, atoms_of, parse_atom, version_key
-from needs import Needs, a_way
+from needs import Needs, ways
 
 Clash = tuple[Package, Package]
 Chain = list[tuple[Package, str | None, int]]
@@ -28,7 +28,7 @@ VERBS = {"conflicts": "conflicts with", "breaks": "breaks"}
 class Asks(typing.Protocol):
     """What a change asks of the program."""
 
-    def mends(self, lines: Iterable[Line], index: Index, strike: Strike, before: Strike | None = None) -> set[Line]: ...
+    def well(self, lines: Iterable[Line], index: Index, strike: Strike) -> set[Line]: ...
 
 
 class Change:
@@ -317,7 +317,7 @@ class Changes:
         for asked in sorted(filter(self.has_changed, links), key=lambda asked: self.asked_before(*asked)):
             tried = self.needs_change(links[asked])
             self.add_link(tried, *links[asked][0])
-            if self.asking.mends([line], self.new, merged([strike, tried.strike]), strike):
+            if self.asking.well([line], self.new, merged([strike, tried.strike])):
                 change, in_need = self.new_needs(links[asked])
                 return Reason(change, ways, in_need[:1], self.conflict_notes(clashes), clashes)
         return None
@@ -340,7 +340,7 @@ class Changes:
             if all(leading):
                 return [needs.chain(names[0], needs.leading_to((end,))) for names, end in zip(leading, clashes[0])]
         ends = [end for clash in clashes for end in clash]
-        return [way for name in line for end in ends if (way := a_way(self.new.named[name], end, self.new))]
+        return [way for name in line for way in ways(self.new.named[name], ends, self.new)]
 
     # As records
 

@@ -5,6 +5,7 @@ from __future__ import annotations
 import bz2
 import contextlib
 import dataclasses
+import gc
 import gzip
 import hashlib
 import io
@@ -197,6 +198,7 @@ def work(pair: Pair, job: Job) -> None:
     """A process of its own, and a group of processes with the program: its result is a file."""
     os.setpgid(0, 0)
     signal.signal(signal.SIGTERM, signal.SIG_DFL)
+    gc.disable()  # next to nothing that it makes is a circle, and the looking takes a tenth of its time
     try:
         found = study_or_refusal(pair, job)
     except Exception:

@@ -41,6 +41,7 @@ class SetAsking(Asking):
             self.stem += "-x"
 
     @staticmethod
+    @functools.lru_cache(None)
     def exactly(index: Index, name: str) -> str | None:
         """An element that the packages of the name satisfy, and no other; or None."""
         packages = index.named[name]
@@ -70,10 +71,14 @@ class SetAsking(Asking):
         texts = [index.slice(names) + self.standing(lines, index) for index in (old, new)]
         return tuple(some.intersection(lines) for some in self.lost(lines, *texts))
 
-    def mends(self, lines: Iterable[Line], index: Index, strike: Strike, before: Strike | None = None) -> set[Line]:
+    def mends(self, lines: Iterable[Line], index: Index, strike: Strike) -> set[Line]:
+        return self.well(lines, index, strike)
+
+    def well(self, lines: Iterable[Line], index: Index, strike: Strike) -> set[Line]:
+        """All lines have three names and more, and it is confirmed that they are broken: then so are those that stand for them in NEW."""
         lines = list(lines)
-        names, stand = names_of(lines), self.standing(lines, index)
-        return self.lost(lines, index.slice(names, strike) + stand, index.slice(names, before) + stand)[0].intersection(lines)
+        dead = self.standing(lines, None, "Depends: %s-none\n" % self.stem)
+        return self.lost(lines, index.slice(names_of(lines), strike) + self.standing(lines, index), dead)[0].intersection(lines)
 
     def confirmed(self, lines: Sequence[Line], index: Index) -> set[Line]:
         names = names_of(lines)

@@ -88,20 +88,21 @@ class Needs:
         return self.chain_from(min(self.index.named[name], key=lambda p: why[p][0]), why)
 
 
-def a_way(starts, end, index):
-    """A shortest way through needs to a package, forced or not, in the form of `Needs.chain`; nothing where there is none."""
-    came = dict.fromkeys(starts)
+def ways(starts, ends, index):
+    """A shortest way through needs to each of these packages, forced or not, in the form of `Needs.chain`; none to what is not reached."""
+    came, left = dict.fromkeys(starts), set(ends)
     queue = list(came)
     for package in queue:
-        if package is end:
-            return way_back(came, end)
+        left.discard(package)
+        if not left:
+            break
         for element in package.needs:
             meeting = index.meeting(element)
             for met in meeting:
                 if met not in came:
                     came[met] = package, element, len(meeting)
                     queue.append(met)
-    return []
+    return [way_back(came, end) for end in ends if end in came]
 
 
 def way_back(came, end):

@@ -121,7 +121,7 @@ class Cause:
         return Found(
             key=self.key(), kind=" and ".join(dict.fromkeys(change.kind for change in self.changes)),
             title="; and ".join(change.title() for change in self.changes), sources=[changes.source(source) for source in sources],
-            lines=sorted(self.lines), mended=self.mended, confirmed=self.confirmed, why=changes.why(line, chains, clashes),
+            lines=sorted(self.lines), mended=self.mended, confirmed=self.confirmed, why=changes.why(line, chains, clashes, len(self.changes) == 1),
             notes=self.notes(), in_need=in_need.most_common(),
         )
 

@@ -12,6 +12,7 @@ import os
 import typing
 from collections.abc import Iterable, Iterator
 
+from broken_proof import proof_of
 from broken_records import Conflict, Line, Moved, Relation, Source, Step, Why
 from debian_index import AGAINST, NEED, Index, Package, atoms_of, parse_atom, version_key
 from needs import Needs, ways
@@ -29,6 +30,8 @@ class Asks(typing.Protocol):
     """What a change asks of the program."""
 
     def well(self, lines: Iterable[Line], index: Index, strike: Strike) -> set[Line]: ...
+
+    def keep(self, name: str, text: str) -> str: ...
 
 
 class Change:
@@ -383,6 +386,8 @@ class Changes:
         ]
         return Conflict([self.moved(end) for end in clash], self.was_there(clash), by)
 
-    def why(self, line: Line, chains: list[Chain], clashes: list[Clash]) -> Why:
-        """One line, its chains and conflicts, with all that a picture needs of them."""
-        return Why(list(line), [self.way(chain) for chain in chains], [self.conflict_of(clash) for clash in clashes])
+    def why(self, line: Line, chains: list[Chain], clashes: list[Clash], is_one: bool) -> Why:
+        """One line, its chains and conflicts, with all that a picture needs; if several conflicts are of one change, a proof too."""
+        part = self.asking.keep("slice", self.new.slice(line)) if is_one and len(clashes) > 1 else None
+        proof = proof_of(self.old, self.new, line, clashes, part) if part else None
+        return Why(list(line), [self.way(chain) for chain in chains], [self.conflict_of(clash) for clash in clashes], proof)

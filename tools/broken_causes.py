@@ -60,12 +60,6 @@ class Asking:
         package = {(p.name, p.version): p for p in index.reach(names)}
         return [(package[w[1], w[2]], package[w[3], w[4]]) for w in answer if w[0] in ("clash", "clash-open")]
 
-    def mends(self, lines: Iterable[Line], index: Index, strike: Strike) -> set[Line]:
-        """Which of the lines are well in the slice once this is taken out, and broken before: the program's word."""
-        names = names_of(lines)
-        old, new = self.keep("mended", index.slice(names, strike)), self.keep("slice", index.slice(names))
-        return set(self.compare(old, new)[1]).intersection(lines)
-
     def well(self, lines: Iterable[Line], index: Index, strike: Strike) -> set[Line]:
         """Which of the lines are well in the slice once this is taken out, if it is known that they are broken before."""
         lines = set(lines)
@@ -250,28 +244,23 @@ class Search:
         for place, cause in enumerate(todo, 1):
             progress("trying cause %d of %d" % (place, len(todo)))
             rests.append(self.try_cause(cause))
-        self.confirm([cause for cause, rest in zip(todo, rests) if rest])
         self.limit = self.asking.written + MOST_BYTES
         for cause, rest in zip(todo, rests):
             self.sort_rest(cause, rest)
+        self.confirm()
 
     def try_cause(self, cause: Cause) -> set[Line]:
         """The lines that the cause does not mend."""
-        lines = sorted(cause.lines)
-        cause.mended |= self.asking.mends(lines, self.new, cause.strike()) if cause.strike() else set()
-        rest = set(lines) - cause.mended
-        cause.confirmed = not rest
-        return rest
+        cause.mended |= self.asking.well(cause.lines, self.new, cause.strike()) if cause.strike() else set()
+        return set(cause.lines) - cause.mended
 
-    def confirm(self, causes: Sequence[Cause]) -> None:
-        """Has the lines of causes confirmed that do not mend them all: names in one run, since of names that are dead no pairs are tried."""
-        names = sorted({line for cause in causes for line in cause.lines if len(line) == 1})
-        found = self.asking.confirmed(names, self.new) if names else set()
-        for cause in causes:
-            others = sorted(line for line in cause.lines if len(line) > 1)
-            if others:
-                found |= self.asking.confirmed(others, self.new)
-            cause.confirmed = found.issuperset(cause.lines)
+    def confirm(self) -> None:
+        """Has all lines confirmed: names in one run and pairs in another, since no pairs are tried of names that are dead."""
+        sure: set[Line] = set()
+        for size in sorted({len(line) for line in self.lines}):
+            sure |= self.asking.confirmed([line for line in self.lines if len(line) == size], self.new)
+        for cause in self.causes.values():
+            cause.confirmed = sure.issuperset(cause.lines)
 
     def sort_rest(self, cause: Cause, rest: set[Line]) -> None:
         for _ in range(MOST_TRIES):
@@ -292,7 +281,6 @@ class Search:
             own = {reason.change.key: reason for reason in cause.lines.pop(moved)}
             together = self.put(moved, [own.get(reason.change.key, reason) for reason in reasons])
             together.mended.add(moved)
-            together.confirmed = together.confirmed or len(together.mended) == len(together.lines)
         return mended | {line}
 
     def further(self, cause: Cause, line: Line) -> list[Reason]:

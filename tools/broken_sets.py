@@ -71,9 +71,6 @@ class SetAsking(Asking):
         texts = [index.slice(names) + self.standing(lines, index) for index in (old, new)]
         return tuple(some.intersection(lines) for some in self.lost(lines, *texts))
 
-    def mends(self, lines: Iterable[Line], index: Index, strike: Strike) -> set[Line]:
-        return self.well(lines, index, strike)
-
     def well(self, lines: Iterable[Line], index: Index, strike: Strike) -> set[Line]:
         """All lines have three names and more, and it is confirmed that they are broken: then so are those that stand for them in NEW."""
         lines = list(lines)
@@ -81,9 +78,8 @@ class SetAsking(Asking):
         return self.lost(lines, index.slice(names_of(lines), strike) + self.standing(lines, index), dead)[0].intersection(lines)
 
     def confirmed(self, lines: Sequence[Line], index: Index) -> set[Line]:
-        names = names_of(lines)
-        bare = "\n".join("Package: %s\nVersion: 1\n" % name for name in names) + self.standing(lines, None)
-        return self.lost(lines, bare, index.slice(names) + self.standing(lines, index))[0].intersection(lines)
+        """All of them: each set is confirmed before its cause is looked for."""
+        return set(lines)
 
     def dead(self, lines: Sequence[Line], index: Index) -> tuple[set[Line], set[Line]]:
         """Which of the lines the index cannot install, and which are open; the names that stand for them conflict, so no pairs are tried."""
@@ -104,8 +100,9 @@ def smaller(line: Line) -> Iterable[Line]:
 def has_all(old: Index, new: Index) -> bool:
     """Whether NEW has each package of OLD, of the same version and with the same relations: then nothing can be lost."""
     there = {(p.name, p.version): p for p in new.packages}
-    mine = [(p, there.get((p.name, p.version))) for p in old.packages]
-    return old.home == new.home and all(now for _, now in mine) and all(p.relations == now.relations for p, now in mine)
+    if old.home != new.home or not all((p.name, p.version) in there for p in old.packages):
+        return False
+    return all(p.relations == there[p.name, p.version].relations for p in old.packages)
 
 
 class Naming:
@@ -230,7 +227,7 @@ class SetSearch:
         """All of the sets that are well without the cause, by the program."""
         lines = {self.lines[kinds]: kinds for kinds in rest}
         progress("trying a cause on %d sets: %s" % (len(lines), cause.key()))
-        mended = self.asking.mends(sorted(lines), self.new, cause.strike()) if cause.strike() else set()
+        mended = self.asking.well(sorted(lines), self.new, cause.strike()) if cause.strike() else set()
         return {lines[line] for line in mended}
 
     def weight(self, kinds: Kinds) -> tuple[list[int], Line]:

@@ -26,7 +26,7 @@ from command import Program, progress
 from debian_index import AGAINST, Index
 from lost_sets import Bits, Kernel, Kinds, Lost, TooMany, bits_of
 
-MOST_ROUNDS = 40  # of looking for causes
+MOST_ROUNDS, MOST_IN_VAIN = 40, 3  # of looking for causes, and of these one after the other that find none
 AT_ONCE = 500  # smaller sets that are tried in one run
 SHOWN = 4  # names of a side that are written out
 
@@ -185,10 +185,10 @@ class SetSearch:
 
     def causes(self) -> tuple[list[Found], set[Kinds]]:
         """The changes with the sets that they mend, and the sets without one."""
-        rest, found = set(self.sets), {}
+        rest, found, in_vain = set(self.sets), {}, 0
         for _ in range(MOST_ROUNDS):
             shown = self.shown(rest)
-            if not shown:
+            if not shown or in_vain == MOST_IN_VAIN:
                 break
             search = Search(self.old, self.new, sorted(shown), self.asking)
             tried = [(cause, self.mended(cause, rest)) for cause in search.run()]
@@ -196,7 +196,9 @@ class SetSearch:
                 if mine := mended & rest:
                     self.put(found, cause, mine, search)
                     rest -= mine
-            if not any(mended for _, mended in tried):
+            is_in_vain = not any(mended for _, mended in tried)
+            in_vain = in_vain + 1 if is_in_vain else 0
+            if is_in_vain:
                 rest -= set(shown.values())
         causes = [self.record(cause, sets, search) for cause, sets, search in found.values()]
         return causes, set(self.sets).difference(*(sets for _, sets, _ in found.values()))

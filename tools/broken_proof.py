@@ -1,4 +1,4 @@
-"""Why a line is broken that several conflicts hold together: a proof by cases, as tools/why_not tells it, and checked before it is told."""
+"""Why several conflicts hold a line: a proof by cases, as tools/why_not prints it, and checked before it is printed."""
 
 from __future__ import annotations
 

@@ -37,6 +37,8 @@ def way_text(way: Sequence[Step]) -> Iterator[str]:
 
 
 def why_lines(why: Why) -> list[str]:
+    if why.proof:
+        return why.proof.text
     steps = list(dict.fromkeys(text for way in why.ways[:MOST_WAYS] for text in way_text(way)))
     return steps + [conflict_text(conflict) for conflict in why.conflicts]
 

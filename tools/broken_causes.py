@@ -18,11 +18,22 @@ from needs import Needs
 
 MOST_CHANGES = 12  # of one cause
 MOST_TRIES = 40  # for the lines that a cause does not mend
-MOST_BYTES = 200_000_000  # of slices that are tried for all such lines; trixie to sid takes a fourth of it
+MOST_BYTES = 60_000_000  # of slices that are tried for all such lines; trixie to sid takes a third of it
 
 
 def names_of(lines: Iterable[Line]) -> tuple[str, ...]:
     return tuple(sorted({name for line in lines for name in line}))
+
+
+def all_broken(lines: Iterable[Line], names: Sequence[str]) -> str:
+    """The text of an index in which just these lines, of one name or two, are broken."""
+    against = collections.defaultdict(list)
+    for one, *other in lines:
+        against[one] += other
+    nothing = names[-1] + "-none"  # it comes after the last of the names, so it is none of them
+    relations = {name: "Conflicts: %s\n" % ", ".join(others) for name, others in against.items() if others}
+    relations.update({line[0]: "Depends: %s\n" % nothing for line in lines if len(line) == 1})
+    return "\n".join("Package: %s\nVersion: 1\n%s" % (name, relations.get(name, "")) for name in names)
 
 
 class Asking:
@@ -49,17 +60,18 @@ class Asking:
         package = {(p.name, p.version): p for p in index.reach(names)}
         return [(package[w[1], w[2]], package[w[3], w[4]]) for w in answer if w[0] in ("clash", "clash-open")]
 
-    def mends(self, lines: Iterable[Line], index: Index, strike: Strike, before: Strike | None = None) -> set[Line]:
-        """Which of the lines are well in the slice once this is taken out, and not before: the program's word."""
+    def well(self, lines: Iterable[Line], index: Index, strike: Strike) -> set[Line]:
+        """Which of the lines are well in the slice once this is taken out, if it is known that they are broken before."""
+        lines = set(lines)
         names = names_of(lines)
-        old, new = self.keep("mended", index.slice(names, strike)), self.keep("slice", index.slice(names, before))
+        old, new = self.keep("mended", index.slice(names, strike)), self.keep("slice", all_broken(lines, names))
         return set(self.compare(old, new)[1]).intersection(lines)
 
-    def confirms(self, lines: Sequence[Line], index: Index) -> bool:
-        """Whether the lines are broken in the slice, judged against an index in which each name is bare."""
+    def confirmed(self, lines: Sequence[Line], index: Index) -> set[Line]:
+        """Which of the lines are broken in the slice, judged against an index in which each name is bare."""
         names = names_of(lines)
         bare = "\n".join("Package: %s\nVersion: 1\n" % name for name in names)
-        return set(self.compare(self.keep("mended", bare), self.keep("slice", index.slice(names)))[1]).issuperset(lines)
+        return set(self.compare(self.keep("mended", bare), self.keep("slice", index.slice(names)))[1]).intersection(lines)
 
 
 class Cause:
@@ -103,7 +115,7 @@ class Cause:
         return Found(
             key=self.key(), kind=" and ".join(dict.fromkeys(change.kind for change in self.changes)),
             title="; and ".join(change.title() for change in self.changes), sources=[changes.source(source) for source in sources],
-            lines=sorted(self.lines), mended=self.mended, confirmed=self.confirmed, why=changes.why(line, chains, clashes),
+            lines=sorted(self.lines), mended=self.mended, confirmed=self.confirmed, why=changes.why(line, chains, clashes, len(self.changes) == 1),
             notes=self.notes(), in_need=in_need.most_common(),
         )
 
@@ -118,6 +130,31 @@ def way_lines(way: Sequence[Step]) -> list[str]:
         elif step.needs:
             lines.append("  depends on %s: nothing satisfies it" % step.needs)
     return lines
+
+
+class Below:
+    """Which of the lines others hold: if the names of one cannot do without those of another, what holds that one holds both."""
+
+    def __init__(self, lines: Iterable[Line], needs: Needs):
+        self.needs = needs
+        self.having: dict[str, list[Line]] = collections.defaultdict(list)
+        for line in lines:
+            for name in line:
+                self.having[name].append(line)
+
+    def forced(self, line: Line) -> frozenset[str]:
+        return frozenset().union(*map(self.needs.forced, line))
+
+    def lowest(self, line: Line) -> Line:
+        """A line that the names of this one cannot do without, and that none is below; it is this one if there is none."""
+        inside = self.forced(line)
+        for name in sorted(inside & self.having.keys()):
+            for other in self.having[name]:
+                if other != line and inside.issuperset(other):
+                    under = self.forced(other)
+                    if (len(under), other) < (len(inside), line):
+                        return self.lowest(other)
+        return line
 
 
 class Search:
@@ -150,22 +187,26 @@ class Search:
 
     # Lines that conflicts hold
 
-    def covered(self, clash: Clash, lines: Iterable[Line]) -> set[Line]:
+    def covered(self, clash: Clash, below: Below) -> set[Line]:
         """The lines whose names cannot do without both packages."""
-        ends = [self.needs.names_leading_to((end,)) for end in clash]
-        return {line for line in lines if not any(end.isdisjoint(line) for end in ends)}
+        ends = sorted((self.needs.names_leading_to((end,)) for end in clash), key=len)
+        return {line for name in ends[0] & below.having.keys() for line in below.having[name] if not ends[1].isdisjoint(line)}
 
     def explain_all(self, lines: Sequence[Line]) -> tuple[dict[Clash, set[Line]], dict[Line, list[Clash]]]:
         """Conflicts, each with the lines that it covers; and the lines that no single conflict holds, with theirs."""
         under: dict[Clash, set[Line]] = {}
         several: dict[Line, list[Clash]] = {}
         seen: set[Line] = set()
+        below, told = Below(lines, self.needs), {}
         for place, line in enumerate(lines):
             if line in seen:
                 continue
             progress("explaining, line %d of %d: %s" % (place + 1, len(lines), " ".join(line)))
-            clashes = self.asking.explain(self.new, line)
-            covered = self.covered(clashes[0], lines) if len(clashes) == 1 else set()
+            lowest = below.lowest(line)
+            if lowest not in told:
+                told[lowest] = self.asking.explain(self.new, lowest)
+            clashes = told[lowest]
+            covered = self.covered(clashes[0], below) if len(clashes) == 1 else set()
             if line in covered:
                 under[clashes[0]] = covered
                 seen |= covered
@@ -206,14 +247,20 @@ class Search:
         self.limit = self.asking.written + MOST_BYTES
         for cause, rest in zip(todo, rests):
             self.sort_rest(cause, rest)
+        self.confirm()
 
     def try_cause(self, cause: Cause) -> set[Line]:
         """The lines that the cause does not mend."""
-        lines = sorted(cause.lines)
-        cause.mended |= self.asking.mends(lines, self.new, cause.strike()) if cause.strike() else set()
-        rest = set(lines) - cause.mended
-        cause.confirmed = not rest or self.asking.confirms(lines, self.new)
-        return rest
+        cause.mended |= self.asking.well(cause.lines, self.new, cause.strike()) if cause.strike() else set()
+        return set(cause.lines) - cause.mended
+
+    def confirm(self) -> None:
+        """Has all lines confirmed: names in one run and pairs in another, since no pairs are tried of names that are dead."""
+        sure: set[Line] = set()
+        for size in sorted({len(line) for line in self.lines}):
+            sure |= self.asking.confirmed([line for line in self.lines if len(line) == size], self.new)
+        for cause in self.causes.values():
+            cause.confirmed = sure.issuperset(cause.lines)
 
     def sort_rest(self, cause: Cause, rest: set[Line]) -> None:
         for _ in range(MOST_TRIES):
@@ -229,12 +276,11 @@ class Search:
         if not further:
             return {line}
         reasons = self.trimmed(line, cause.lines[line] + further)
-        mended = self.asking.mends(sorted(rest), self.new, merged(reason.change.strike for reason in reasons))
+        mended = self.asking.well(rest, self.new, merged(reason.change.strike for reason in reasons))
         for moved in sorted(mended):
             own = {reason.change.key: reason for reason in cause.lines.pop(moved)}
             together = self.put(moved, [own.get(reason.change.key, reason) for reason in reasons])
             together.mended.add(moved)
-            together.confirmed = together.confirmed or len(together.mended) == len(together.lines)
         return mended | {line}
 
     def further(self, cause: Cause, line: Line) -> list[Reason]:
@@ -249,7 +295,7 @@ class Search:
                 return []
             reasons.append(reason)
             strike = merged([strike, reason.change.strike])
-            if self.asking.mends([line], self.new, strike):
+            if self.asking.well([line], self.new, strike):
                 return reasons
         return []
 
@@ -267,7 +313,7 @@ class Search:
         """The reasons, less those without which the line is mended too."""
         for reason in list(reasons):
             others = [other for other in reasons if other is not reason]
-            if others and self.asking.mends([line], self.new, merged(other.change.strike for other in others)):
+            if others and self.asking.well([line], self.new, merged(other.change.strike for other in others)):
                 reasons = others
         return reasons
 

@@ -12,9 +12,10 @@ import os
 import typing
 from collections.abc import Iterable, Iterator
 
+from broken_proof import proof_of
 from broken_records import Conflict, Line, Moved, Relation, Source, Step, Why
 from debian_index import AGAINST, NEED, Index, Package, atoms_of, parse_atom, version_key
-from needs import Needs, a_way
+from needs import Needs, ways
 
 Clash = tuple[Package, Package]
 Chain = list[tuple[Package, str | None, int]]
@@ -28,7 +29,9 @@ VERBS = {"conflicts": "conflicts with", "breaks": "breaks"}
 class Asks(typing.Protocol):
     """What a change asks of the program."""
 
-    def mends(self, lines: Iterable[Line], index: Index, strike: Strike, before: Strike | None = None) -> set[Line]: ...
+    def well(self, lines: Iterable[Line], index: Index, strike: Strike) -> set[Line]: ...
+
+    def keep(self, name: str, text: str) -> str: ...
 
 
 class Change:
@@ -317,7 +320,7 @@ class Changes:
         for asked in sorted(filter(self.has_changed, links), key=lambda asked: self.asked_before(*asked)):
             tried = self.needs_change(links[asked])
             self.add_link(tried, *links[asked][0])
-            if self.asking.mends([line], self.new, merged([strike, tried.strike]), strike):
+            if self.asking.well([line], self.new, merged([strike, tried.strike])):
                 change, in_need = self.new_needs(links[asked])
                 return Reason(change, ways, in_need[:1], self.conflict_notes(clashes), clashes)
         return None
@@ -340,7 +343,7 @@ class Changes:
             if all(leading):
                 return [needs.chain(names[0], needs.leading_to((end,))) for names, end in zip(leading, clashes[0])]
         ends = [end for clash in clashes for end in clash]
-        return [way for name in line for end in ends if (way := a_way(self.new.named[name], end, self.new))]
+        return [way for name in line for way in ways(self.new.named[name], ends, self.new)]
 
     # As records
 
@@ -383,6 +386,8 @@ class Changes:
         ]
         return Conflict([self.moved(end) for end in clash], self.was_there(clash), by)
 
-    def why(self, line: Line, chains: list[Chain], clashes: list[Clash]) -> Why:
-        """One line, its chains and conflicts, with all that a picture needs of them."""
-        return Why(list(line), [self.way(chain) for chain in chains], [self.conflict_of(clash) for clash in clashes])
+    def why(self, line: Line, chains: list[Chain], clashes: list[Clash], is_one: bool) -> Why:
+        """One line, its chains and conflicts, with all that a picture needs; if several conflicts are of one change, a proof too."""
+        part = self.asking.keep("slice", self.new.slice(line)) if is_one and len(clashes) > 1 else None
+        proof = proof_of(self.old, self.new, line, clashes, part) if part else None
+        return Why(list(line), [self.way(chain) for chain in chains], [self.conflict_of(clash) for clash in clashes], proof)

@@ -5,6 +5,7 @@ from __future__ import annotations
 import bz2
 import contextlib
 import dataclasses
+import gc
 import gzip
 import hashlib
 import io
@@ -22,6 +23,7 @@ import traceback
 from collections.abc import Callable, Iterator, Sequence
 from typing import BinaryIO
 
+import inputs
 from broken_causes import Asking, causes_of
 from broken_records import File, Found, Refused, Study
 from broken_sets import sets_of
@@ -61,10 +63,10 @@ class Job:
 
 
 def plain(path: str, folder: str) -> str:
-    """The path of an index that is not compressed: its own, or that of a decompressed one."""
+    """The path of an index that is not compressed: its own, or that of a copy of what is compressed, of a pipe or of standard input."""
     stem, ending = os.path.splitext(path)
-    if ending not in OPENERS:
-        return path
+    if ending not in OPENERS or not os.path.isfile(path):
+        return inputs.plain(path, folder)
     inside = os.path.join(folder, "plain%d" % len(os.listdir(folder)))
     os.mkdir(inside)
     out = os.path.join(inside, os.path.basename(stem))
@@ -116,9 +118,13 @@ class Inputs:
         """The architecture of an index and the path of its plain text."""
         try:
             text = plain(path, folder)
+            inputs.show_as(text, path)
             name = architecture_of(text)
         except (OSError, EOFError, lzma.LZMAError) as fault:
             self.refused.append(Refused(None, "%s: %s" % (path, getattr(fault, "strerror", None) or "not decompressed: %s" % fault), UNREADABLE))
+            return None
+        except BadIndex as fault:
+            self.refused.append(Refused(None, str(fault), UNREADABLE))
             return None
         if name is None:
             self.refused.append(Refused(None, "%s: no package is in it" % path, EMPTY))
@@ -169,9 +175,9 @@ def study_or_refusal(pair: Pair, job: Job) -> Study | Refused:
         with contextlib.redirect_stderr(said):
             found = study(pair, job)
     except SystemExit as end:
-        return Refused(pair.architecture, said.getvalue().strip(), end.code)
+        return Refused(pair.architecture, inputs.shown(said.getvalue().strip()), end.code)
     except (BadWords, BadIndex) as fault:
-        return Refused(pair.architecture, str(fault), EMPTY)
+        return Refused(pair.architecture, inputs.shown(str(fault)), EMPTY)
     found.seconds = round(time.monotonic() - start, 1)
     return found
 
@@ -197,6 +203,7 @@ def work(pair: Pair, job: Job) -> None:
     """A process of its own, and a group of processes with the program: its result is a file."""
     os.setpgid(0, 0)
     signal.signal(signal.SIGTERM, signal.SIG_DFL)
+    gc.disable()  # next to nothing that it makes is a circle, and the looking takes a tenth of its time
     try:
         found = study_or_refusal(pair, job)
     except Exception:

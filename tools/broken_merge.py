@@ -13,7 +13,7 @@ from broken_allowed import Allowed
 from broken_causes import way_lines
 from broken_groups import groups_of, groups_of_names
 from broken_records import (
-    FORMAT, LINKS, Architecture, Cause, Found, Line, Off, On, Otherwise, Problem, Refused, Report, Sets, SetsOf, Source, Study, own_file,
+    FORMAT, LINKS, Architecture, Cause, Found, Line, Off, On, Otherwise, Problem, Proof, Refused, Report, Sets, SetsOf, Source, Study, Why, own_file,
 )
 from broken_use import Use
 from debian_index import TEXT
@@ -47,6 +47,8 @@ def named_suites(found: Found, study: Study) -> Found:
             text = text.replace(file.name, suite_name(file.name, study.architecture))
         return text
     found.title, found.notes = told(found.title), [(told(text), number) for text, number in found.notes]
+    if found.why.proof:
+        found.why.proof = Proof([told(text) for text in found.why.proof.text], told(found.why.proof.picture))
     return found
 
 
@@ -54,6 +56,11 @@ def otherwise(here: Iterable[Source], there: Iterable[Source]) -> Otherwise:
     """Which sources a cause has on another architecture and not here, and the other way."""
     mine, other = ([source.source for source in sources] for sources in (here, there))
     return Otherwise([source for source in other if source not in mine], [source for source in mine if source not in other])
+
+
+def chains_of(why: Why) -> list[list[str]]:
+    """Why as text: the proof if there is one, or else the first ways."""
+    return [why.proof.text] if why.proof else [way_lines(way) for way in why.ways[:4]]
 
 
 class Merge:
@@ -141,7 +148,7 @@ class Merge:
         every, told = set().union(*on.values()), parts[lead]
         return Cause(
             key=key, id=id_of(key), changes=key.split(" & "), under=None, kind=told.kind, title=told.title, sources=told.sources,
-            why=told.why, chains=[way_lines(way) for way in told.why.ways[:4]], notes=told.notes, in_need=told.in_need, told_of=lead,
+            why=told.why, chains=chains_of(told.why), notes=told.notes, in_need=told.in_need, told_of=lead,
             otherwise={place: other for place in parts if (other := otherwise(told.sources, parts[place].sources)).more or other.fewer},
             allowed=key in self.allowed_keys, bugs=self.allowed.bugs([key, *key.split(" & ")]), use=self.use.of_cause(every, sets),
             on={place: self.on(place, on[place], parts[place], sets.get(place)) for place in parts},

@@ -81,12 +81,21 @@ class Conflict:
 
 
 @dataclasses.dataclass
+class Proof:
+    """Why several conflicts hold a line together: in words, and as a picture for Graphviz."""
+
+    text: list[str]
+    picture: str
+
+
+@dataclasses.dataclass
 class Why:
-    """One line, the ways that lead from its names, and the conflicts at their ends."""
+    """One line, the ways that lead from its names, and the conflicts at their ends; of several conflicts of one change the proof."""
 
     line: list[str]
     ways: list[list[Step]]
     conflicts: list[Conflict]
+    proof: Proof | None = None
 
 
 # Sets of three names and more

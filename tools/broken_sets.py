@@ -26,7 +26,7 @@ from command import Program, progress
 from debian_index import AGAINST, Index
 from lost_sets import Bits, Kernel, Kinds, Lost, TooMany, bits_of
 
-MOST_ROUNDS = 40  # of looking for causes
+MOST_ROUNDS, MOST_IN_VAIN = 40, 3  # of looking for causes, and of these one after the other that find none
 AT_ONCE = 500  # smaller sets that are tried in one run
 SHOWN = 4  # names of a side that are written out
 
@@ -41,6 +41,7 @@ class SetAsking(Asking):
             self.stem += "-x"
 
     @staticmethod
+    @functools.lru_cache(None)
     def exactly(index: Index, name: str) -> str | None:
         """An element that the packages of the name satisfy, and no other; or None."""
         packages = index.named[name]
@@ -70,15 +71,15 @@ class SetAsking(Asking):
         texts = [index.slice(names) + self.standing(lines, index) for index in (old, new)]
         return tuple(some.intersection(lines) for some in self.lost(lines, *texts))
 
-    def mends(self, lines: Iterable[Line], index: Index, strike: Strike, before: Strike | None = None) -> set[Line]:
+    def well(self, lines: Iterable[Line], index: Index, strike: Strike) -> set[Line]:
+        """All lines have three names and more, and it is confirmed that they are broken: then so are those that stand for them in NEW."""
         lines = list(lines)
-        names, stand = names_of(lines), self.standing(lines, index)
-        return self.lost(lines, index.slice(names, strike) + stand, index.slice(names, before) + stand)[0].intersection(lines)
+        dead = self.standing(lines, None, "Depends: %s-none\n" % self.stem)
+        return self.lost(lines, index.slice(names_of(lines), strike) + self.standing(lines, index), dead)[0].intersection(lines)
 
-    def confirms(self, lines: Sequence[Line], index: Index) -> bool:
-        names = names_of(lines)
-        bare = "\n".join("Package: %s\nVersion: 1\n" % name for name in names) + self.standing(lines, None)
-        return self.lost(lines, bare, index.slice(names) + self.standing(lines, index))[0].issuperset(lines)
+    def confirmed(self, lines: Sequence[Line], index: Index) -> set[Line]:
+        """All of them: each set is confirmed before its cause is looked for."""
+        return set(lines)
 
     def dead(self, lines: Sequence[Line], index: Index) -> tuple[set[Line], set[Line]]:
         """Which of the lines the index cannot install, and which are open; the names that stand for them conflict, so no pairs are tried."""
@@ -99,8 +100,9 @@ def smaller(line: Line) -> Iterable[Line]:
 def has_all(old: Index, new: Index) -> bool:
     """Whether NEW has each package of OLD, of the same version and with the same relations: then nothing can be lost."""
     there = {(p.name, p.version): p for p in new.packages}
-    mine = [(p, there.get((p.name, p.version))) for p in old.packages]
-    return old.home == new.home and all(now for _, now in mine) and all(p.relations == now.relations for p, now in mine)
+    if old.home != new.home or not all((p.name, p.version) in there for p in old.packages):
+        return False
+    return all(p.relations == there[p.name, p.version].relations for p in old.packages)
 
 
 class Naming:
@@ -135,6 +137,7 @@ class SetSearch:
         kernels = [Kernel(program.ask("kernel", index.path)[1]) for index in (old, new)]
         self.found, self.naming = Lost(*kernels), Naming(kernels[1], new)
         self.asking = SetAsking(program, folder, (old, new))
+        self.name_of = functools.lru_cache(None)(self.name_of)
         self.sets = self.found.sets()
         self.lines = {kinds: self.line_of(kinds) for kinds in self.sets}
         self.open: list[Kinds] = []
@@ -182,10 +185,10 @@ class SetSearch:
 
     def causes(self) -> tuple[list[Found], set[Kinds]]:
         """The changes with the sets that they mend, and the sets without one."""
-        rest, found = set(self.sets), {}
+        rest, found, in_vain = set(self.sets), {}, 0
         for _ in range(MOST_ROUNDS):
             shown = self.shown(rest)
-            if not shown:
+            if not shown or in_vain == MOST_IN_VAIN:
                 break
             search = Search(self.old, self.new, sorted(shown), self.asking)
             tried = [(cause, self.mended(cause, rest)) for cause in search.run()]
@@ -193,7 +196,9 @@ class SetSearch:
                 if mine := mended & rest:
                     self.put(found, cause, mine, search)
                     rest -= mine
-            if not any(mended for _, mended in tried):
+            is_in_vain = not any(mended for _, mended in tried)
+            in_vain = in_vain + 1 if is_in_vain else 0
+            if is_in_vain:
                 rest -= set(shown.values())
         causes = [self.record(cause, sets, search) for cause, sets, search in found.values()]
         return causes, set(self.sets).difference(*(sets for _, sets, _ in found.values()))
@@ -224,7 +229,7 @@ class SetSearch:
         """All of the sets that are well without the cause, by the program."""
         lines = {self.lines[kinds]: kinds for kinds in rest}
         progress("trying a cause on %d sets: %s" % (len(lines), cause.key()))
-        mended = self.asking.mends(sorted(lines), self.new, cause.strike()) if cause.strike() else set()
+        mended = self.asking.well(sorted(lines), self.new, cause.strike()) if cause.strike() else set()
         return {lines[line] for line in mended}
 
     def weight(self, kinds: Kinds) -> tuple[list[int], Line]:

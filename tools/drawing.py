@@ -148,7 +148,8 @@ class Drawing:
 
 
 def dot_of(why: Why, old: str) -> str:
-    return Drawing(why, old).dot()
+    """The picture of a proof if there is one, or else of the ways."""
+    return why.proof.picture if why.proof else Drawing(why, old).dot()
 
 
 def svgs(dots: Sequence[str]) -> list[str]:

@@ -34,8 +34,14 @@ def plain(path: str, folder: str) -> str:
     copy = os.path.join(own, re.sub(r"\.(gz|xz|bz2)$", "", os.path.basename(path)))
     with open(copy, "wb") as file:
         file.write(memoryview(data)[1:])
-    _shown[copy] = path
+    show_as(copy, path)
     return copy
+
+
+def show_as(copy: str, path: str) -> None:
+    """Has messages about a copy name the path that the user named."""
+    if copy != path:
+        _shown[copy] = path
 
 
 def shown(text: str) -> str:

@@ -30,6 +30,7 @@ class Needs:
         self.living = {element: sum(p not in self.dead for p in index.meeting(element)) for element in self.owners}
         self.leading_to = functools.lru_cache(None)(lambda goals: self.spread(goals, ()))
         self.names_leading_to = functools.lru_cache(None)(self.names_leading_to)
+        self.forced = functools.lru_cache(None)(self.forced)
 
     def elements(self, package):
         struck = self.strike.get(package, ())
@@ -61,6 +62,17 @@ class Needs:
         why = self.leading_to(goals)
         return {p.name for p in why if all(q in why for q in self.index.named[p.name])}
 
+    def forced(self, name):
+        """A name, and those that it cannot do without as one living package alone meets an element; there may be others."""
+        packages = self.index.named[name]
+        inside, todo = {name}, packages if len(packages) == 1 else []
+        while todo:
+            meeting = (self.index.meeting(element) for package in todo for element in self.elements(package))
+            living = ([package for package in some if package not in self.dead] for some in meeting)
+            todo = list({some[0].name: some[0] for some in living if len(some) == 1 and some[0].name not in inside}.values())
+            inside.update(package.name for package in todo)
+        return frozenset(inside)
+
     def chain_from(self, package, why):
         """Steps (package, element, how many packages meet it); the last element is None at a goal, or one that nobody meets."""
         steps = []
@@ -76,20 +88,21 @@ class Needs:
         return self.chain_from(min(self.index.named[name], key=lambda p: why[p][0]), why)
 
 
-def a_way(starts, end, index):
-    """A shortest way through needs to a package, forced or not, in the form of `Needs.chain`; nothing where there is none."""
-    came = dict.fromkeys(starts)
+def ways(starts, ends, index):
+    """A shortest way through needs to each of these packages, forced or not, in the form of `Needs.chain`; none to what is not reached."""
+    came, left = dict.fromkeys(starts), set(ends)
     queue = list(came)
     for package in queue:
-        if package is end:
-            return way_back(came, end)
+        left.discard(package)
+        if not left:
+            break
         for element in package.needs:
             meeting = index.meeting(element)
             for met in meeting:
                 if met not in came:
                     came[met] = package, element, len(meeting)
                     queue.append(met)
-    return []
+    return [way_back(came, end) for end in ends if end in came]
 
 
 def way_back(came, end):

@@ -6,10 +6,10 @@ import dataclasses
 import hashlib
 import os
 import sys
-from collections.abc import Callable, Collection, Iterable, Sequence
+from collections.abc import Callable, Collection, Iterable, Iterator, Sequence
 
 from command import HERE
-from debian_index import TEXT
+from debian_index import TEXT, Package, atoms_of
 from lost_sets import Kernel, Lost, TooMany
 from plan_faults import Fault, Faults, Installable
 from plan_mixes import BOTH, NEW, OLD, Built, Everywhere, Files, Mix, Rules, Suites, newest
@@ -48,6 +48,15 @@ class End:
 def in_order(line: Sequence[str]) -> Line:
     """A line with its names in the order of their bytes, whatever they were called when it was asked for."""
     return line[0], *sorted(line[1:])
+
+
+def reserved_in(packages: Sequence[Package]) -> Iterator[str]:
+    """The names of packages, and those in their relations, that begin as the names of a plan do."""
+    texts = {id(package.data): package.data for package in packages}
+    if any(word.encode() in text for text in texts.values() for word in RESERVED):
+        for package in packages:
+            atoms = (atom for elements in package.relations.values() for element in elements for atom in atoms_of(element))
+            yield from (name for name in [package.name, *(atom.name for atom in atoms)] if name.startswith(RESERVED))
 
 
 def digest_of(value: object) -> str:
@@ -91,9 +100,8 @@ class Asking:
 
     def check(self) -> None:
         """That the index with switches can stand for the mixes: its names are free, and all of them have one architecture."""
-        for name in self.suites.names[OLD] | self.suites.names[NEW]:
-            if name.startswith(RESERVED):
-                raise BadSuite("%s: names that begin so are for plans" % name)
+        if name := next(reserved_in(self.suites.packages), None):
+            raise BadSuite("%s: names that begin so are for plans" % name)
         if not any(p.state == BOTH and p.architecture == self.home for p in self.suites.packages):
             if any(":%s" % self.home in element for p in self.suites.packages for kind in p.relations.values() for element in kind):
                 raise BadSuite("%s: no package of it is in both suites, and relations are restricted to it" % self.home)

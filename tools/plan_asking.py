@@ -44,6 +44,11 @@ class End:
     sets: list[Line]
     unknown: str | None
 
+    @property
+    def broken(self) -> list[Line]:
+        """The lines that say that something is lost; the others are open."""
+        return [line for line in self.lines if line[0] == "broken"]
+
 
 def in_order(line: Sequence[str]) -> Line:
     """A line with its names in the order of their bytes, whatever they were called when it was asked for."""

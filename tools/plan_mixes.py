@@ -208,6 +208,10 @@ class Suites:
                         found[other].add(package)
         return found
 
+    def look_up(self) -> None:
+        """Makes the tables now that are made else once they are asked for."""
+        self.users, self.clashes
+
     # What a question rests on
 
     @functools.cached_property

@@ -17,7 +17,7 @@ def section_bytes(lines, how):
 
 
 def read_case(path):
-    case = {"status": None, "stdout": None, "words": [], "each": [], "files": {}, "folders": [], "made": {}, "out": b"", "err": b""}
+    case = {"status": None, "stdout": None, "words": [], "each": [], "files": {}, "programs": [], "folders": [], "made": {}, "out": b"", "err": b""}
     header, lines = None, []
 
     def close():
@@ -31,6 +31,8 @@ def read_case(path):
             case["each"] = [shlex.split(line) for line in lines]
         elif kind == "file":
             case["files"][name] = section_bytes(lines, how)
+            if how == "program":
+                case["programs"].append(name)
         elif kind == "folder":
             case["folders"].append(name)
         elif kind == "made":
@@ -62,6 +64,8 @@ def place_files(case, where):
     for name, data in case["files"].items():
         with open(os.path.join(where, name), "wb") as file:
             file.write(data)
+    for name in case["programs"]:
+        os.chmod(os.path.join(where, name), 0o755)
     for name in case["folders"]:
         os.mkdir(os.path.join(where, name))
 

@@ -3,30 +3,32 @@
 from __future__ import annotations
 
 import collections
+import contextlib
 import functools
-import multiprocessing
+import multiprocessing.process
+import os
 import signal
 import traceback
 from collections.abc import Callable, Collection, Sequence
 from multiprocessing.connection import Connection
 from typing import Any, TypeVar
 
+from built import NOT_BUILT
 from command import BadWords
-from debian_index import PACKED, BadIndex, packages_of, version_key
+from debian_index import BadIndex, version_key
 from plan_asking import Asking, BadSuite
 from plan_mixes import Built, Everywhere
 from plan_program import Refused
 
 Pair = tuple[str, str]
 Answer = TypeVar("Answer")
+FORK = multiprocessing.get_context("fork")
 EXPECTED = (Refused, BadSuite, BadIndex, OSError)
 
 
 def architecture_of(path: str) -> str:
     """The architecture of an index, as its first package says that is not of `all`; no more of the file is read."""
     with open(path, "rb") as file:
-        if any(file.peek(8).startswith(magic) for magic in PACKED):
-            packages_of(path)  # which says that it is compressed
         is_empty = True
         for line in file:
             field, _, value = line.partition(b":")
@@ -51,10 +53,13 @@ def pairs_of(paths: Sequence[str]) -> dict[str, Pair]:
 
 
 def answers(pipe: Connection, others: Sequence[Connection], gate: Any, make: Callable[[], Asking]) -> None:
-    """Answers what the pipe asks, an Asking's method and its words, until nobody asks; `others` are the ends that only the asking side has."""
+    """Answers what the pipe asks, an Asking's method and its words, until nobody asks; `others` are the ends that only the asking side has.
+
+    It is a group of processes with the programs that it asks, so that all of them can be ended at once.
+    """
+    os.setpgid(0, 0)
     for end in others:
         end.close()
-    signal.signal(signal.SIGINT, lambda *_: None)  # not ignored, as the programs that are asked would ignore it too
     signal.signal(signal.SIGTERM, signal.SIG_DFL)
     asking: Asking | None = None
     while True:
@@ -78,12 +83,17 @@ class Archive:
 
     def __init__(self, pairs: dict[str, Pair], make: Callable[[str, Pair], Asking], at_once: int) -> None:
         self.names = sorted(pairs)
-        gate = multiprocessing.BoundedSemaphore(at_once)
+        gate = FORK.BoundedSemaphore(at_once)
         self.pipes: dict[str, Connection] = {}
+        self.processes: list[multiprocessing.process.BaseProcess] = []
         for name in self.names:
-            self.pipes[name], his = multiprocessing.Pipe()
+            self.pipes[name], his = FORK.Pipe()
             words = (his, list(self.pipes.values()), gate, functools.partial(make, name, pairs[name]))
-            multiprocessing.Process(target=answers, args=words, daemon=True).start()
+            process = FORK.Process(target=answers, args=words, daemon=True)
+            process.start()
+            with contextlib.suppress(OSError):  # the process does so too, whoever is first
+                os.setpgid(process.pid or 0, process.pid or 0)
+            self.processes.append(process)
             his.close()
 
     def ask(self, method: Callable[..., Answer], *words: Any, only: Collection[str] | None = None) -> dict[str, Answer]:
@@ -91,9 +101,14 @@ class Archive:
         return self.ask_each(method, {name: words for name in (self.names if only is None else sorted(only))})
 
     def ask_each(self, method: Callable[..., Answer], words: dict[str, tuple[Any, ...]]) -> dict[str, Answer]:
+        found: dict[str, Any] = {}
         for name in words:
             self.pipes[name].send((method, words[name]))
-        found = {name: self.pipes[name].recv() for name in words}
+        for name in words:
+            try:
+                found[name] = self.pipes[name].recv()
+            except EOFError:
+                raise Refused(NOT_BUILT, "plan: %s: the process that asks about it has ended\n" % name) from None
         for answer in found.values():
             if isinstance(answer, Exception):
                 raise answer
@@ -107,8 +122,11 @@ class Archive:
         return sorted(set().union(*self.ask_each(Asking.link, words).values()))
 
     def end(self) -> None:
-        for pipe in self.pipes.values():
-            pipe.close()
+        """Ends the processes, and what they have started."""
+        for process in self.processes:
+            with contextlib.suppress(ProcessLookupError):
+                os.killpg(process.pid or 0, signal.SIGKILL)
+            process.join()
 
 
 def unbuilt(built: dict[str, dict[str, Built]], name: str) -> frozenset[str]:

@@ -6,10 +6,11 @@ import dataclasses
 import hashlib
 import os
 import sys
-from collections.abc import Callable, Collection, Iterable, Sequence
+from collections.abc import Callable, Collection, Iterator, Sequence
+from concurrent.futures import ThreadPoolExecutor
 
 from command import HERE
-from debian_index import TEXT
+from debian_index import TEXT, Package, atoms_of
 from lost_sets import Kernel, Lost, TooMany
 from plan_faults import Fault, Faults, Installable
 from plan_mixes import BOTH, NEW, OLD, Built, Everywhere, Files, Mix, Rules, Suites, newest
@@ -44,10 +45,24 @@ class End:
     sets: list[Line]
     unknown: str | None
 
+    @property
+    def broken(self) -> list[Line]:
+        """The lines that say that something is lost; the others are open."""
+        return [line for line in self.lines if line[0] == "broken"]
+
 
 def in_order(line: Sequence[str]) -> Line:
     """A line with its names in the order of their bytes, whatever they were called when it was asked for."""
     return line[0], *sorted(line[1:])
+
+
+def reserved_in(packages: Sequence[Package]) -> Iterator[str]:
+    """The names of packages, and those in their relations, that begin as the names of a plan do."""
+    texts = {id(package.data): package.data for package in packages}
+    if any(word.encode() in text for text in texts.values() for word in RESERVED):
+        for package in packages:
+            atoms = (atom for elements in package.relations.values() for element in elements for atom in atoms_of(element))
+            yield from (name for name in [package.name, *(atom.name for atom in atoms)] if name.startswith(RESERVED))
 
 
 def digest_of(value: object) -> str:
@@ -55,10 +70,10 @@ def digest_of(value: object) -> str:
 
 
 class Asking:
-    """The program, asked about the suites of one architecture."""
+    """The program, asked about the suites of one architecture; what can be asked at once, is, up to a number."""
 
-    def __init__(self, program: Coinst, rules: Rules, paths: tuple[str, str], memory: Memory) -> None:
-        self.program, self.rules, self.memory = program, rules, memory
+    def __init__(self, program: Coinst, rules: Rules, paths: tuple[str, str], memory: Memory, at_once: int = 1) -> None:
+        self.program, self.rules, self.memory, self.at_once = program, rules, memory, at_once
         self.files = Files(*paths)
         self.paths = self.files.paths
 
@@ -70,9 +85,14 @@ class Asking:
         self.suites = Suites(self.files, everywhere, self.rules)
         self.home = self.suites.pool.home or "all"
         self.check()
-        self.lost = frozenset(self.kept("lost", [OLD, NEW], lambda: self.compare(self.paths[OLD], self.paths[NEW])))
-        self.can = Installable(self.installable_in(OLD), self.installable_in(NEW))
-        self.faults = Faults(self.suites, self.can)
+        with ThreadPoolExecutor(self.at_once) as pool:
+            lost = pool.submit(self.kept, "lost", [OLD, NEW], lambda: self.compare(self.paths[OLD], self.paths[NEW]))
+            can = [pool.submit(self.installable_in, suite) for suite in (OLD, NEW)]
+            try:
+                self.suites.look_up()
+            finally:
+                self.lost = frozenset(lost.result())  # what the program refuses is told first
+        self.faults = Faults(self.suites, Installable(*(names.result() for names in can)))
         return set(self.suites.sources)
 
     def kept(self, what: str, suites: Sequence[str], ask: Callable[[], list[Line]]) -> list[Line]:
@@ -86,14 +106,13 @@ class Asking:
     def installable_in(self, suite: str) -> frozenset[str]:
         """The names that a suite can install; those that it cannot are remembered, which are few."""
         names = self.suites.names[suite]
-        cannot = self.kept("cannot", [suite], lambda: [(name,) for name in sorted(names - self.installable(self.paths[suite], names))])
+        cannot = self.kept("cannot", [suite], lambda: [(name,) for name in sorted(names - self.installable(suite, self.paths[suite], names))])
         return frozenset(names.difference(line[0] for line in cannot))
 
     def check(self) -> None:
         """That the index with switches can stand for the mixes: its names are free, and all of them have one architecture."""
-        for name in self.suites.names[OLD] | self.suites.names[NEW]:
-            if name.startswith(RESERVED):
-                raise BadSuite("%s: names that begin so are for plans" % name)
+        if name := next(reserved_in(self.suites.packages), None):
+            raise BadSuite("%s: names that begin so are for plans" % name)
         if not any(p.state == BOTH and p.architecture == self.home for p in self.suites.packages):
             if any(":%s" % self.home in element for p in self.suites.packages for kind in p.relations.values() for element in kind):
                 raise BadSuite("%s: no package of it is in both suites, and relations are restricted to it" % self.home)
@@ -103,10 +122,12 @@ class Asking:
         lines = self.program.ask("compare", [old_path, new_path])[:-1]
         return [in_order(line) for line in lines if self.suites.may_break.isdisjoint(line[1:])]
 
-    def installable(self, path: str, names: Iterable[str]) -> frozenset[str]:
+    def installable(self, label: str, path: str, names: Collection[str]) -> frozenset[str]:
         """The names that an index can install: those that break against an index in which each of these is dead."""
+        if not names:
+            return frozenset()
         dead = "".join("Package: %s\nVersion: 0\nArchitecture: %s\nDepends: %s\n\n" % (name, self.home, NOBODY) for name in sorted(names))
-        lines = self.program.ask("compare", [path, self.program.write("dead", dead)])
+        lines = self.program.ask("compare", [path, self.program.write("dead-" + label, dead)])
         return frozenset(line[1] for line in lines if line[0] == "broken")
 
     # Questions of a plan
@@ -223,14 +244,17 @@ class Asking:
         if mix == self.paths[OLD]:
             return End([], [], [], None)
         brings = {p.name for source in come for p in self.suites.brought.get(source, ())} - self.suites.names[OLD]
-        can = self.installable(mix, brings) if brings else frozenset()
-        sets, unknown = self.lost_sets(mix)
-        return End(self.compare(self.paths[OLD], mix), sorted((brings & self.can.new) - can), sets, unknown)
+        with ThreadPoolExecutor(self.at_once) as pool:
+            lines = pool.submit(self.compare, self.paths[OLD], mix)
+            can = pool.submit(self.installable, "end", mix, brings)
+            kernels = [pool.submit(self.program.ask, "kernel", [path]) for path in (self.paths[OLD], mix)]
+            sets, unknown = self.lost_sets(*(kernel.result() for kernel in kernels))
+        return End(lines.result(), sorted((brings & self.faults.can.new) - can.result()), sets, unknown)
 
-    def lost_sets(self, mix: str) -> tuple[list[Line], str | None]:
-        """An example for each kind of set of three names and more that the mix has lost, or why that is not known."""
+    def lost_sets(self, old: list[Line], new: list[Line]) -> tuple[list[Line], str | None]:
+        """An example for each kind of set of three names and more that is lost between two kernels, or why that is not known."""
         try:
-            lost = Lost(*(Kernel(self.program.ask("kernel", [path])) for path in (self.paths[OLD], mix)))
+            lost = Lost(Kernel(old), Kernel(new))
             judged = [[name for name in names if name not in self.suites.may_break] for names in lost.members]
             sets = [[judged[kind] for kind in kinds] for kinds in lost.sets()]
         except TooMany as fault:

@@ -306,7 +306,7 @@ class Plan:
         """The last comparison; a step after which a set of three names or more is lost is left out, until none is."""
         while True:
             ends = self.archive.ask(Asking.end, frozenset(self.come))
-            lost = next(((name, end.sets[0]) for name, end in ends.items() if end.sets and not end.lines), None)
+            lost = next(((name, end.sets[0]) for name, end in ends.items() if end.sets and not end.broken), None)
             if lost is None:
                 return ends
             self.leave_out(*lost)

@@ -14,6 +14,7 @@ import functools
 import hashlib
 import re
 from collections.abc import Iterable, Set
+from typing import cast
 
 from debian_index import AGAINST, TEXT, Index, Offers, Package, no_collection, packages_of, version_key
 
@@ -41,7 +42,7 @@ class Pool(Index):
     """Packages of several files as one index."""
 
     def __init__(self, path: str, packages: list[Member]) -> None:
-        self.path, self.packages = path, packages
+        self.path, self.packages = path, list[Package](packages)
         self.named, self.provided = collections.defaultdict(list), collections.defaultdict(list)
         for place, package in enumerate(packages):
             package.place = place
@@ -85,8 +86,7 @@ class Files:
     def __init__(self, old_path: str, new_path: str) -> None:
         self.paths = {OLD: old_path, NEW: new_path}
         with no_collection():
-            self.old: list[Member] = packages_of(old_path, Member)
-            every: list[Member] = packages_of(new_path, Member)
+            self.old, every = (cast("list[Member]", packages_of(path, Member)) for path in (old_path, new_path))
             self.built = self.built_in(every)
             self.new = [p for p in every if p.source_version == self.built[p.source].newest]
 
@@ -122,8 +122,8 @@ class Suites:
     def __init__(self, files: Files, everywhere: Everywhere, rules: Rules) -> None:
         self.files, self.rules, self.everywhere = files, rules, everywhere
         with no_collection():
-            self.pool = Pool(files.paths[NEW], files.all_packages())
-            self.packages: list[Member] = self.pool.packages
+            self.packages = files.all_packages()
+            self.pool = Pool(files.paths[NEW], self.packages)
             self.names = {OLD: {p.name for p in files.old}, NEW: {p.name for p in files.new}}
             self.link_sources()
         self.met: dict[str, list[Member]] = {}
@@ -157,13 +157,12 @@ class Suites:
         )
 
     def named(self, name: str) -> list[Member]:
-        found: list[Member] = self.pool.named.get(name, [])
-        return found
+        return cast("list[Member]", self.pool.named.get(name, []))
 
     def meeting(self, element: str) -> list[Member]:
         """The packages of both suites that meet an element."""
         if element not in self.met:
-            self.met[element] = self.pool.meeting(element)
+            self.met[element] = cast("list[Member]", self.pool.meeting(element))
         return self.met[element]
 
     def has_name(self, name: str, come: Mix) -> bool:
@@ -207,6 +206,10 @@ class Suites:
                         found[package].add(other)
                         found[other].add(package)
         return found
+
+    def look_up(self) -> None:
+        """Makes the tables now that are made else once they are asked for."""
+        self.users, self.clashes
 
     # What a question rests on
 

@@ -70,7 +70,7 @@ class Report:
         return [source for source in self.wanted if source not in self.plan.come]
 
     def status(self) -> int:
-        return 1 if self.stays else 8 if any(end.unknown for end in self.ends.values()) else 0
+        return 1 if self.stays else 8 if any(end.unknown or end.lines for end in self.ends.values()) else 0
 
     def text(self) -> str:
         came = len(self.wanted) - len(self.stays)
@@ -132,7 +132,8 @@ class Report:
     def end_text(self, name: str) -> list[str]:
         end = self.ends[name]
         sets = "of larger sets it is not known: " + end.unknown if end.unknown else "no larger set is lost"
-        lines = ["%s: compare OLD with the mix of all that comes: no line; %s" % (name, sets)]
+        open_lines = "not decided: " + some(map(line_text, end.lines), 4, "lines") if end.lines else "no line"
+        lines = ["%s: compare OLD with the mix of all that comes: %s; %s" % (name, open_lines, sets)]
         return lines + ["  comes and cannot be installed: " + some(end.dead, 8, "names")] if end.dead else lines
 
 

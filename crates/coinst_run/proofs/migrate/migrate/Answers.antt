@@ -44,7 +44,7 @@ returns-in_err-view g c =
     let read = c.in_ok-older.ensures.index in
     let text = read.text in
     let suite = c.in_ok-older.older.suite in
-    let p = err_from_is_err_and c.from_residual.result c.from_residual.ensures.1 in rw (p.1, p.2)
+    let p = err_from_is_err_and c.from_residual-in_err-view.result c.from_residual-in_err-view.ensures.1 in rw (p.1, p.2)
     (text_passed old text (old_answer old c.args.new.now settings) _ _ read.whole _ _
     (settled_follows (old_answer old c.args.new.now settings text) _ _
     (stopped (kernel_at old settings.limit settings.hold text) (λ kernel. new_course old c.args.new.now settings text) _

@@ -1,6 +1,6 @@
 -- What is handed on from mix to mix.
 use Rattle.std.proofs.{Common.{◌≡◌, ◌+◌, ◌≤◌, length, arith}, lemmas.List.{length-append}}
-use Rattle.std.specs.{List.{items_where_true}}
+use Rattle.std.specs.List.{items_where_true}
 use Rattle.migrate_plan.specs.{Whole.{packages_of_both, IsWhole}, declared.whole.Whole.{Whole}}
 use Rattle.migrate_plan.proofs.Parted.{book_long}
 

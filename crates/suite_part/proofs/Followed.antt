@@ -1,7 +1,7 @@
 -- A base and a small book tell the rows of a mix, and whether one passes the limit.
 use Rattle.std.proofs.{Common.{◌≡◌, ◌<◌, ◌≤◌, Bool, false, List, length, None, inl, inr, ◌∙◌, subst}, lemmas.Bool.{cases_Bool}}
-use Rattle.row_book.specs.{Parts.{part}, declared.book.Book.{Book}, Book.{repository_of}, Flags.{flag}}
-use Rattle.row_book.specs.{Flattening.{passes, remaining_after, row_length}, Repository.{Repository}}
+use Rattle.row_book.specs.{Parts.{part}, declared.book.Book.{Book}, Book.{repository_of}, Flags.{flag}, Flattening.{passes, remaining_after, row_length}}
+use Rattle.row_book.specs.Repository.{Repository}
 use Rattle.row_book.proofs.{Placed.{HasPlace, at_place, count_in}, Parts.{part_count}, BookRepositories.{book_size}}
 use Rattle.clause_pool.specs.Interned.{Interned}
 use Rattle.clause_flatten.proofs.Passing.{passes_none}

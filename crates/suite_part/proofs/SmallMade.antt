@@ -1,6 +1,6 @@
 -- The small book is a part of the whole in which rivals have no clauses.
 use Rattle.std.proofs.Common.{◌≡◌, ℕ, ◌<◌, ◌≤◌, ◌+◌, ◌⊎◌, Bool, true, false, cond, List, [], ◌∷◌, ◌++◌, length, map, inl, inr, refl, sym, ◌∙◌, ap, ap₂, subst, arith}
-use Rattle.std.proofs.{lemmas.List.{map-append}}
+use Rattle.std.proofs.lemmas.List.{map-append}
 use Rattle.std.specs.List.{range_with_len}
 use Rattle.clause_pool.specs.Interned.{Interned, Kept, row_at}
 use Rattle.clause_pool.proofs.Interned.{row_stays}
@@ -10,7 +10,7 @@ use Rattle.row_book.specs.{declared.book.Book.{Book}, Book.{repository_of, AreCo
 use Rattle.row_book.specs.{Repository.{Repository, clauses_of}, Uses.{row_id}, Parts.{number_in, numbers_up, part, place_in}}
 use Rattle.row_book.proofs.{BookRepositories.{book_size, sound_repository}, Books.{clauses_row}, Flags.{flag_in}, Numbered.{number_back, up_count}}
 use Rattle.row_book.proofs.{Numbers.{at_numbers, length_numbers, numbers_more, numbers_parts}, Parts.{part_count, part_row}, Placed.{count_in, place_below}}
-use Rattle.suite_part.specs.{Small.{AreApart, AreNeeded, HasRivals, IsSmall}}
+use Rattle.suite_part.specs.Small.{AreApart, AreNeeded, HasRivals, IsSmall}
 
 -- packages that are needed, and their rivals
 pub apart_made : (from : Interned) (book : Book) (flags changed needed apart : List Bool) → Sound from book → length flags ≡ length book.rows → AreNeeded (repository_of from book) flags changed needed →

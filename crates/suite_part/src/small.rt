@@ -44,7 +44,13 @@ pub(crate) fn small_book(
     let mut pool = Pool::new(alloc)?;
     let part = part_of(alloc, &mut pool, from, book, &apart)?;
     let empty = pool.intern_row(&[])?;
-    let rows = rows_or(alloc, part.rows.as_slice(), numbers.as_slice(), &needed, empty)?;
+    let rows = rows_or(
+        alloc,
+        part.rows.as_slice(),
+        numbers.as_slice(),
+        &needed,
+        empty,
+    )?;
     let small = part.with_rows(alloc, Listed::of(rows))?;
     Ok(SmallBook {
         pool,
@@ -74,7 +80,13 @@ fn needed_in(
         }
     }
     while let Some(number) = work.pop() {
-        need_members(from, from.row(book.row(number)), flags, &mut needed, &mut work)?;
+        need_members(
+            from,
+            from.row(book.row(number)),
+            flags,
+            &mut needed,
+            &mut work,
+        )?;
     }
     Ok(needed)
 }

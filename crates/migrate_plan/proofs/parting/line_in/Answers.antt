@@ -1,8 +1,8 @@
 use Rattle.std.proofs.Common.{◌≡◌, ◌∙◌, Some, Result, Ok, Err, OnOk, ap, length, refl, subst, sym}
 use Rattle.std.specs.{List.{items_where_true}, Option.{ForSome}}
 use Rattle.row_book.specs.{Book.{repository_of}, Parts.{part}, Rounds.{limit_at}}
-use Rattle.migrate_plan.specs.{Whole.{packages_of_both, settings_between, HasMixRows, IsBaseFor, IsCarried, IsMadeKernel}, declared.plan.PlanLine.TheVariants.{LeftLimit}}
-use Rattle.migrate_plan.specs.Trying.{told_of}
+use Rattle.migrate_plan.specs.Whole.{packages_of_both, settings_between, HasMixRows, IsBaseFor, IsCarried, IsMadeKernel}
+use Rattle.migrate_plan.specs.{declared.plan.PlanLine.TheVariants.{LeftLimit}, Trying.{told_of}}
 use Rattle.kernel_rounds.specs.Known.{AreKnownRounds}
 use Rattle.migrate_plan.proofs.{Made.{limit_made, line_answered}, Parted.{book_long, can_follow, mix_over, mix_within}}
 use Rattle.migrate_plan.proofs.parting.line_in.Goals as goal

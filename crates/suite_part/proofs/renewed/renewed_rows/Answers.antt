@@ -5,8 +5,7 @@ use Rattle.clause_pool.specs.Interned.{clauses_at, row_at, Kept}
 use Rattle.clause_pool.proofs.Interned.{kept_along, kept_same}
 use Rattle.listed.specs.Lists.{Ascending, In}
 use Rattle.suite_part.specs.{BaseRows.{AreBaseRows}, Renewed.{IsRenewed}, Back.{AreBack}}
-use Rattle.suite_part.proofs.{Backs.{none_back}}
-use Rattle.suite_part.proofs.Renewing.{new_listed, renewed_all, renewed_back, renewed_more, renewed_none, renewed_old, RenewedTo}
+use Rattle.suite_part.proofs.{Backs.{none_back}, Renewing.{new_listed, renewed_all, renewed_back, renewed_more, renewed_none, renewed_old, RenewedTo}}
 use Rattle.suite_part.proofs.renewed.renewed_rows.Goals as goal
 use Rattle.suite_part.proofs.renewed.renewed_rows.Goals.{After-as_slice, in-Some+in_ok-id-in-Some, in-None}
 

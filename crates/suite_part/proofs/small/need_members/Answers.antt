@@ -3,7 +3,7 @@ use Rattle.clause_pool.specs.Interned.{clause_at}
 use Rattle.listed.specs.Lists.{In}
 use Rattle.listed.proofs.Lists.{In_map, item_in}
 use Rattle.row_book.specs.Flags.{flag}
-use Rattle.suite_part.specs.{Bases.{Flags}}
+use Rattle.suite_part.specs.Bases.{Flags}
 use Rattle.suite_part.proofs.Needs.{flags_join, row_next}
 use Rattle.suite_part.proofs.small.need_members.Goals as goal
 

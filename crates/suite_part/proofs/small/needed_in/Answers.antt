@@ -1,7 +1,7 @@
 use Rattle.std.proofs.{Common.{◌≡◌, ◌<◌, ◌∙◌, [], ◌∷◌, ap, arith, inl, inr, length, refl, subst, sym, true}, lemmas.Grind.{common_steps}}
 use Rattle.listed.{specs.Lists.{In}, proofs.Lists.{In_at, In_cases, In_none}}
 use Rattle.row_book.proofs.Users.{lent_whole}
-use Rattle.row_book.specs.{Uses.{row_id}}
+use Rattle.row_book.specs.Uses.{row_id}
 use Rattle.clause_pool.specs.Interned.{clauses_at, row_at}
 use Rattle.suite_part.specs.{Bases.{Flags}, Small.{members_in}}
 use Rattle.suite_part.proofs.{Bases.{no_work}, Needs.{needs_all, needs_first, needs_members, needs_other, waiting_below}}

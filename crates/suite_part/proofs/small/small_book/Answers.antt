@@ -14,7 +14,7 @@ rows_or-requires-clause-count c =
     let needed = c.in_ok-needed.needed.items in
     let apart = c.in_ok-apart.apart.flags.items in
     let are = apart_there from book c.args.flags.now c.args.changed.now needed c.deref.result.now c.in_ok-rivals.rivals.items apart c.requires.book c.requires.flags c.in_ok-needed.ensures c.deref.ensures.value
-        c.in_ok-rivals.ensures c.in_ok-apart.ensures in
+    c.in_ok-rivals.ensures c.in_ok-apart.ensures in
     ap length (c.as_slice-2.ensures ∙ c.in_ok-numbers.ensures ∙ ap numbers_up c.deref-2.ensures.value)
     ∙ numbers_count from book c.args.flags.now needed apart are c.part_of.new.pool c.in_ok-part.part c.in_ok-part.ensures.part ∙ ap length (sym c.as_slice.ensures)
 
@@ -48,7 +48,7 @@ returns c =
     apart_there from book flags c.args.changed.now needed c.deref.result.now c.in_ok-rivals.rivals.items apart c.requires.book c.requires.flags c.in_ok-needed.ensures c.deref.ensures.value c.in_ok-rivals.ensures
     c.in_ok-apart.ensures in
     let lent = rows_told c.deref-3.result.now needed c.as_slice-2.result.now (numbers_up apart) c.as_slice.result.now part_book.rows empty c.deref-3.ensures.value
-        (c.as_slice-2.ensures ∙ c.in_ok-numbers.ensures ∙ ap numbers_up c.deref-2.ensures.value) c.as_slice.ensures in
+    (c.as_slice-2.ensures ∙ c.in_ok-numbers.ensures ∙ ap numbers_up c.deref-2.ensures.value) c.as_slice.ensures in
     let rows_are = c.in_ok-small.ensures.rows ∙ c.of-2.ensures ∙ c.in_ok-rows.ensures ∙ lent in
     record {
       needed = needed;

@@ -8,7 +8,7 @@ pub mod Reached
 pub mod Midways
 pub mod MovedSteps
 pub mod FirstPlace
-mod Again
+pub mod Again
 mod Behind
 mod Descent
 mod Limits

@@ -118,10 +118,6 @@ pub can_follow : (whole : Whole) (base : Option Base) (flags : List Bool) (made 
 can_follow whole base flags (Own pool kernel class_of) has = tt
 can_follow whole base flags (Beside classified rows) has = λ before is. (has before is).base_rows
 
--- the limit that equal packages do not pass
-pub none_within : (limit : ℕ) (hold : Bool) (home : Home) (some others : List PackageFacts) → some ≡ others → limit_at limit hold (suite_repository home some) ≡ None → limit_at limit hold (suite_repository home others) ≡ None
-none_within limit hold home some others same within = subst (λ packages. limit_at limit hold (suite_repository home packages) ≡ None) same within
-
 -- a book of packages has as many rows
 pub book_long : (pool : Interned) (book : Book) (home : Home) (packages : List PackageFacts) → IsBookOf pool book (suite_repository home packages) → length book.rows ≡ length packages
 book_long pool book home packages is = sym (length-map book.rows (row_at pool)) ∙ ap (λ R. length R.clauses) is.repository ∙ length_clauses home packages

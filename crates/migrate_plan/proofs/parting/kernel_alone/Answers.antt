@@ -6,13 +6,13 @@ use Rattle.migrate_plan.proofs.Parted.{own_made}
 use Rattle.migrate_plan.proofs.parting.kernel_alone.Goals as goal
 
 pub part_of-requires-clause-flags : goal.part_of-requires-clause-flags
-part_of-requires-clause-flags c = ap length (c.in_ok-chosen.ensures ∙ c.in_ok-from_slice.ensures) ∙ c.requires.flags
+part_of-requires-clause-flags c = ap length (c.in_ok-chosen.ensures ∙ c.in_ok-from_slice.ensures.items) ∙ c.requires.flags
 
 pub returns-in-Err-Limit-clause-kernel : goal.returns-in-Err-Limit-clause-kernel
 returns-in-Err-Limit-clause-kernel c =
     let whole = c.args.whole.now in
     let view = whole.old.now.view.now in
-    let same = c.in_ok-book.ensures.part ∙ ap (λ flags. part flags (repository_of whole.pool whole.book)) (c.in_ok-chosen.ensures ∙ c.in_ok-from_slice.ensures) in
+    let same = c.in_ok-book.ensures.part ∙ ap (λ flags. part flags (repository_of whole.pool whole.book)) (c.in_ok-chosen.ensures ∙ c.in_ok-from_slice.ensures.items) in
     (_, ap (limit_at view.limit view.kernel.hold) (sym same) ∙ rw c.in-Err-Limit.field-0-is at c.in-Err-Limit.ensures.passed)
 
 pub returns-in-Err-Limit-clause-known : goal.returns-in-Err-Limit-clause-known
@@ -28,7 +28,7 @@ returns-clause-kernel c =
     let flags = c.args.flags.now in
     let W = repository_of whole.pool whole.book in
     let chosen = c.in_ok-chosen.chosen.flags.items in
-    let up : chosen ≡ flags = c.in_ok-chosen.ensures ∙ c.in_ok-from_slice.ensures in
+    let up : chosen ≡ flags = c.in_ok-chosen.ensures ∙ c.in_ok-from_slice.ensures.items in
     own_made view.limit view.kernel.hold W (sound_repository whole.pool whole.book c.requires.book.rows.is_pool c.requires.book) flags (c.requires.flags ∙ sym (book_size whole.pool whole.book))
     _ _ c.in-Ok.kernel _ c.in_ok-class_of.class_of chosen (c.in_ok-book.ensures.part ∙ ap (λ f. part f W) up) up c.in-Ok.ensures.kernel
     (subst (λ list. c.in_ok-class_of.class_of.items ≡ map (λ n. number_in list (place_in chosen n)) (numbers (length chosen) 0)) c.as_slice.ensures c.in_ok-class_of.ensures)

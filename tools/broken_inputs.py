@@ -22,6 +22,7 @@ import traceback
 from collections.abc import Callable, Iterator, Sequence
 from typing import BinaryIO
 
+import inputs
 from broken_causes import Asking, causes_of
 from broken_records import File, Found, Refused, Study
 from broken_sets import sets_of
@@ -61,10 +62,10 @@ class Job:
 
 
 def plain(path: str, folder: str) -> str:
-    """The path of an index that is not compressed: its own, or that of a decompressed one."""
+    """The path of an index that is not compressed: its own, or that of a copy of what is compressed, of a pipe or of standard input."""
     stem, ending = os.path.splitext(path)
-    if ending not in OPENERS:
-        return path
+    if ending not in OPENERS or not os.path.isfile(path):
+        return inputs.plain(path, folder)
     inside = os.path.join(folder, "plain%d" % len(os.listdir(folder)))
     os.mkdir(inside)
     out = os.path.join(inside, os.path.basename(stem))
@@ -119,6 +120,9 @@ class Inputs:
             name = architecture_of(text)
         except (OSError, EOFError, lzma.LZMAError) as fault:
             self.refused.append(Refused(None, "%s: %s" % (path, getattr(fault, "strerror", None) or "not decompressed: %s" % fault), UNREADABLE))
+            return None
+        except BadIndex as fault:
+            self.refused.append(Refused(None, str(fault), UNREADABLE))
             return None
         if name is None:
             self.refused.append(Refused(None, "%s: no package is in it" % path, EMPTY))

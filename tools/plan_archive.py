@@ -3,8 +3,10 @@
 from __future__ import annotations
 
 import collections
+import contextlib
 import functools
 import multiprocessing
+import os
 import signal
 import traceback
 from collections.abc import Callable, Collection, Sequence
@@ -12,7 +14,7 @@ from multiprocessing.connection import Connection
 from typing import Any, TypeVar
 
 from command import BadWords
-from debian_index import PACKED, BadIndex, packages_of, version_key
+from debian_index import BadIndex, version_key
 from plan_asking import Asking, BadSuite
 from plan_mixes import Built, Everywhere
 from plan_program import Refused
@@ -25,8 +27,6 @@ EXPECTED = (Refused, BadSuite, BadIndex, OSError)
 def architecture_of(path: str) -> str:
     """The architecture of an index, as its first package says that is not of `all`; no more of the file is read."""
     with open(path, "rb") as file:
-        if any(file.peek(8).startswith(magic) for magic in PACKED):
-            packages_of(path)  # which says that it is compressed
         is_empty = True
         for line in file:
             field, _, value = line.partition(b":")
@@ -52,6 +52,7 @@ def pairs_of(paths: Sequence[str]) -> dict[str, Pair]:
 
 def answers(pipe: Connection, others: Sequence[Connection], gate: Any, make: Callable[[], Asking]) -> None:
     """Answers what the pipe asks, an Asking's method and its words, until nobody asks; `others` are the ends that only the asking side has."""
+    os.setpgid(0, 0)
     for end in others:
         end.close()
     signal.signal(signal.SIGINT, lambda *_: None)  # not ignored, as the programs that are asked would ignore it too
@@ -80,10 +81,16 @@ class Archive:
         self.names = sorted(pairs)
         gate = multiprocessing.BoundedSemaphore(at_once)
         self.pipes: dict[str, Connection] = {}
+        self.processes: list[multiprocessing.Process] = []
         for name in self.names:
             self.pipes[name], his = multiprocessing.Pipe()
             words = (his, list(self.pipes.values()), gate, functools.partial(make, name, pairs[name]))
-            multiprocessing.Process(target=answers, args=words, daemon=True).start()
+            process = multiprocessing.Process(target=answers, args=words, daemon=True)
+            process.start()
+            assert process.ident
+            with contextlib.suppress(OSError):  # the process does so too, whoever is first
+                os.setpgid(process.ident, process.ident)
+            self.processes.append(process)
             his.close()
 
     def ask(self, method: Callable[..., Answer], *words: Any, only: Collection[str] | None = None) -> dict[str, Answer]:
@@ -107,8 +114,14 @@ class Archive:
         return sorted(set().union(*self.ask_each(Asking.link, words).values()))
 
     def end(self) -> None:
+        """Ends the processes with what they started: each is a group with the program that it asks."""
         for pipe in self.pipes.values():
             pipe.close()
+        for process in self.processes:
+            assert process.ident
+            with contextlib.suppress(ProcessLookupError):
+                os.killpg(process.ident, signal.SIGKILL)
+            process.join()
 
 
 def unbuilt(built: dict[str, dict[str, Built]], name: str) -> frozenset[str]:

@@ -16,7 +16,7 @@ from index_part import reached
 from inputs import shown
 
 FAULT, LIMIT, UNKNOWN = 3, 4, 9  # statuses of the program
-HELD = ("--clause-limit", "512", "--hold")
+HELD = ("--clause-limit", "400", "--hold")  # no dependency list of Debian is longer
 SEVERAL = 10  # if one name in so many has several versions, the index is of several suites
 LARGE = 20_000  # packages of an index that is looked at so
 Lines = typing.List[typing.List[str]]
@@ -138,18 +138,21 @@ def tell_fault(program: Program, path: str, goals: typing.Sequence[str]) -> None
 
 
 def ask_part(program: Program, what: str, index: Index, goals: typing.Sequence[str], folder: str, why: str) -> Answer:
-    """Asks what the goals reach, if need be with --hold, and says so."""
+    """Asks what the goals reach, and says so.
+
+    A kernel of several versions of many names can take seconds before it passes the limit, so the part is asked with --hold and a low limit at once.
+    """
     part, count = write_part(index, goals, folder)
-    say("%s: %s, so the %d packages that the goals reach are asked" % (shown(index.path), why, count))
-    is_free = not {"--hold", "--clause-limit"} & set(program.options)
-    options: tuple[str, ...] = ()
-    with Question(program, what, [part, *goals]) as question:
-        status, lines = question.answer((FAULT, LIMIT) if is_free else (FAULT,))
+    options = HELD if not {"--hold", "--clause-limit"} & set(program.options) else ()
+    with_them = ", with %s" % " ".join(options) if options else ""
+    say("%s: %s, so the %d packages that the goals reach are asked%s" % (shown(index.path), why, count, with_them))
+    with Question(program, what, [part, *goals], options) as question:
+        status, lines = question.answer((FAULT, LIMIT) if options else (FAULT,))
     if status == FAULT:
         tell_fault(program, index.path, goals)
     if status == LIMIT:
-        options = HELD
-        say("these pass the clause limit too, so they are asked with %s" % " ".join(options))
+        options = HELD[-1:]
+        say("these pass that limit, so they are asked with %s" % " ".join(options))
         with Question(program, what, [part, *goals], options) as question:
             status, lines = question.answer()
     return Answer(index, status, lines, part, options)

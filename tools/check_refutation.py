@@ -20,12 +20,14 @@ It prints `accepted`, or says what it refuses, with status 1.
 from __future__ import annotations
 
 import functools
+import gc
 import itertools
 import json
 import re
 import sys
 from typing import Any
 
+FIELDS = {"package", "version", "architecture", "depends", "pre-depends", "conflicts", "breaks", "provides"}
 Key = tuple[str, str]
 Node = dict[str, Any]
 
@@ -66,8 +68,7 @@ def compare(a: str, b: str) -> int:  # below, at or above 0 as a is before, equa
 
 def atom(text: str) -> tuple[str, str, str, str]:
     """Name, qualifier, operator and version of one alternative."""
-    text = " ".join(text.split())
-    head, _, bound = text.partition("(")
+    head, _, bound = " ".join(text.split()).partition("(")
     name, _, qualifier = head.strip().partition(":")
     operator = re.match("[<>=]*", bound)[0]  # type: ignore[index]
     return name, qualifier, operator, bound[len(operator) :].rstrip(") ").strip()
@@ -84,28 +85,26 @@ class Facts:
         fields: dict[str, str] = {}
         with open(path, encoding="utf-8", errors="surrogateescape", newline="\n") as file:
             for line in itertools.chain(file, ["\n"]):
-                if not line.strip(" \t\n"):
+                if line[0] not in " \t\n":
+                    last = line.partition(":")[0].lower() if line[0] in "PpVvAaDdCcBb" else ""
+                    if last in FIELDS:
+                        fields[last] = line[len(last) + 1 :].strip()
+                elif not line.strip(" \t\n"):
                     self.stanza(fields)
                     fields = {}
-                elif line[0] in " \t":
+                elif last in FIELDS:
                     fields[last] += " " + line.strip()
-                else:
-                    last, _, value = line.partition(":")
-                    last = last.lower()
-                    fields[last] = value.strip()
         for key, fields in self.packages.items():
             self.offers.setdefault(key[0], []).append((key, key[1]))
-            for text in self.split(fields.get("provides")):
+            for text in self.split(fields["provides"]) if "provides" in fields else ():
                 name, qualifier, _, version = atom(text)
                 if self.local(qualifier):
                     self.offers.setdefault(name, []).append((key, version))
 
     def stanza(self, fields: dict[str, str]) -> None:  # keeps the fields of a stanza that count
         if "package" in fields:
-            used = ("depends", "pre-depends", "conflicts", "breaks", "provides")
-            self.packages[fields["package"], fields["version"]] = {k: fields[k] for k in used if k in fields}
-            if fields.get("architecture", "all") != "all":
-                self.home = fields["architecture"]
+            self.packages[fields["package"], fields["version"]] = fields
+            self.home = fields["architecture"] if fields.get("architecture", "all") != "all" else self.home
 
     def split(self, value: str | None) -> list[str]:  # the elements of a field
         return [" ".join(text.split()) for text in (value or "").split(",") if text.strip()]
@@ -193,6 +192,7 @@ def check(facts: Facts, tree: Node, asked: list[str]) -> None:
 
 
 if __name__ == "__main__":
+    gc.disable()  # of what is read, nothing goes before the end
     try:
         check(Facts(sys.argv[1]), json.load(open(sys.argv[2], encoding="utf-8")), sys.argv[3:])
         print("accepted")

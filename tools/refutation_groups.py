@@ -17,6 +17,7 @@ from refutation_search import Element, Limit, Problem, Search, TooLarge, polishe
 
 ORDERS = 4  # of the search from the goals
 ROUNDS = 12  # of splitting names
+LOOK = 8  # steps that a round takes for each package before it searches
 MOST_REASONS = 20_000  # of a refutation of packages that is made from one by groups
 
 
@@ -31,53 +32,66 @@ class Group(Package):
 class GroupProblem(Problem):
     """A problem of groups; the names of `split` have one for each version."""
 
-    def __init__(self, packages: Problem, split: typing.Container[str]) -> None:
+    def __init__(self, packages: Problem, split: typing.Collection[str], last: GroupProblem | None = None) -> None:
+        """`last`: a problem with fewer names split, whose groups and needs are taken over where they are the same."""
         self.packages, self.index, self.goals = packages, packages.index, packages.goals
         named: dict[str, list[Package]] = collections.defaultdict(list)
         for p in packages.order:
             if not isinstance(p, Goal):
                 named[p.name].append(p)
         parts = [[p] for name, mine in named.items() for p in mine if name in split] + [mine for name, mine in named.items() if name not in split]
-        self.groups = [Group(members) for members in sorted(parts, key=lambda members: members[0].place)]
+        there = {tuple(group.members): group for group in last.groups} if last else {}
+        self.groups: list[Group] = [there.get(tuple(members)) or Group(members) for members in sorted(parts, key=lambda members: members[0].place)]
         self.of: dict[Package, Package] = {p: group for group in self.groups for p in group.members}
         self.element: dict[tuple[Held, str], dict[Held, str]] = {}
-        self.hard = {goal: [(text, self.groups_of(ways)) for text, ways in packages.hard[goal]] for goal in self.goals}
-        self.hard.update({group: self.needs(group) for group in self.groups})
+        self.met_by: dict[str, list[Package]] = {}
+        self.hard = {goal: [(element[0], list(dict.fromkeys(self.of[q] for q in element[1]))) for element in packages.hard[goal]] for goal in self.goals}
+        self.hard.update({group: self.needs_again(group, last) for group in self.groups})
         self.against = {group: self.foes(group) for group in self.groups}
         self.far = self.distances()
         self.order = sorted(self.far, key=lambda p: p.place)
-        self.owners = self.owners_of()
 
-    def groups_of(self, ways: typing.Iterable[Package]) -> list[Package]:
-        return list(dict.fromkeys(self.of[q] for q in ways))
+    def groups_of(self, element: Element) -> list[Package]:
+        """The groups that satisfy an element."""
+        text, ways = element
+        if text not in self.met_by:
+            self.met_by[text] = list(dict.fromkeys(self.of[q] for q in ways))
+        return self.met_by[text]
+
+    def needs_again(self, group: Group, last: GroupProblem | None) -> list[Element]:
+        """The needs of a group, as they were if none of the groups that they may mean was split since then."""
+        if last and group in last.hard and all(self.of[q] is last.of[q] for p in group.members for _, ways in self.packages.hard[p] for q in ways):
+            self.element.update({(group, text): last.element[group, text] for text, _ in last.hard[group]})
+            return last.hard[group]
+        return self.needs(group)
 
     def needs(self, group: Group) -> list[Element]:
         """The dependencies that all members have, as sets of groups."""
         first, *others = group.members
         found: list[Element] = []
-        for text, ways in self.packages.hard[first]:
-            groups = self.groups_of(ways)
+        texts = [{element[0]: element for element in self.packages.hard[other]} for other in others]
+        for element in self.packages.hard[first]:
+            text, groups = element[0], self.groups_of(element)
             chosen: dict[Held, str] = {first: text}
-            for other in others:
-                fit = self.fitting(other, text, groups)
+            for other, his in zip(others, texts):
+                fit = his.get(text) or self.fitting(other, groups)
                 if fit is None:
                     break
                 chosen[other] = fit[0]
-                groups = list(dict.fromkeys([*groups, *self.groups_of(fit[1])]))
+                groups = list(dict.fromkeys([*groups, *self.groups_of(fit)]))
             else:
                 self.element[group, text] = chosen
                 found.append((text, groups))
         return found
 
-    def fitting(self, member: Package, text: str, groups: list[Package]) -> Element | None:
-        """The dependency of a member that adds the fewest groups to those of another member's."""
-        best: tuple[tuple[int, bool], Element] | None = None
+    def fitting(self, member: Package, groups: list[Package]) -> Element | None:
+        """The dependency of a member that adds the fewest groups to those of another member's, which it does not have itself."""
+        best: tuple[int, Element] | None = None
         for element in self.packages.hard[member]:
-            mine = self.groups_of(element[1])
-            added = [group for group in mine if group not in groups]
-            if len(added) < len(mine) or not mine:
-                cost = len(added), element[0] != text
-                best = (cost, element) if best is None or cost < best[0] else best
+            mine = self.groups_of(element)
+            added = sum(group not in groups for group in mine)
+            if (added < len(mine) or not mine) and (best is None or added < best[0]):
+                best = added, element
         return best and best[1]
 
     def foes(self, group: Group) -> set[Package]:
@@ -163,8 +177,13 @@ def of_groups(problem: GroupProblem, limit: Limit, steps: int) -> Refutation | s
     """The shortest refutation by groups that is found, or the names to be split."""
     best: Refutation | None = None
     for seed in range(ORDERS):
-        search = Search(problem, seed, limit)
-        root = search.descend(set(problem.goals))
+        try:
+            search = Search(problem, seed, limit)
+            root = search.refute(problem.goals)
+        except TooLarge:
+            if best is None:
+                raise
+            break
         if root is None:
             return problem.inexact(search.model)
         one = Refutation(search.why, root, False)
@@ -177,10 +196,12 @@ def of_groups(problem: GroupProblem, limit: Limit, steps: int) -> Refutation | s
 def by_groups(packages: Problem, steps: int) -> Refutation | None:
     """A refutation that tells versions apart as little as need be; None if none was found."""
     split: set[str] = set()
+    problem: GroupProblem | None = None
     limit = Limit(steps)
     try:
         for _ in range(ROUNDS):
-            problem = GroupProblem(packages, split)
+            limit.spend(LOOK * len(packages.order))
+            problem = GroupProblem(packages, split, problem)
             found = of_groups(problem, limit, steps)
             if isinstance(found, Refutation):
                 why, root = problem.in_packages(found.why, found.root)

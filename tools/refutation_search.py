@@ -10,7 +10,9 @@ All limits are numbers of steps, so that one question has one answer.
 
 from __future__ import annotations
 
+import bisect
 import collections
+import functools
 import heapq
 import itertools
 import random
@@ -26,6 +28,13 @@ LONGEST = 60  # lines that are looked for from the conflicts upwards if nothing 
 
 Element = typing.Tuple[str, typing.Sequence[Package]]
 Pair = typing.Tuple[Package, Package]
+
+
+class Without(typing.NamedTuple):
+    """A nogood of a package, and what that package cannot be together with by it."""
+
+    rest: Nogood
+    nogood: Nogood
 
 
 class TooLarge(Exception):
@@ -73,9 +82,9 @@ class Problem:
         self.hard = self.hard_needs(elements)
         self.far = self.distances()
         self.order = sorted(self.far, key=lambda p: p.place)
-        self.owners = self.owners_of()
 
-    def owners_of(self) -> dict[Package, list[tuple[Held, Element]]]:
+    @functools.cached_property
+    def owners(self) -> dict[Package, list[tuple[Held, Element]]]:
         """The hard needs that each package satisfies, with their owners."""
         owners: dict[Package, list[tuple[Held, Element]]] = collections.defaultdict(list)
         for p in self.far:
@@ -132,6 +141,20 @@ class Problem:
                         queue.append(q)
         return far
 
+    @functools.cached_property
+    def known(self) -> Reasons:
+        """What is a nogood at first: two packages in conflict."""
+        return {frozenset((conflict.one, conflict.other)): conflict for conflict in self.conflicts()}
+
+    @functools.cached_property
+    def of_known(self) -> dict[Held, list[Without]]:
+        """The first nogoods by their packages."""
+        of: dict[Held, list[Without]] = collections.defaultdict(list)
+        for nogood in self.known:
+            for p in nogood:
+                of[p].append(Without(nogood - {p}, nogood))
+        return of
+
     def conflicts(self) -> typing.Iterator[Conflict]:
         """The conflicts among what hard needs lead to, each once."""
         for one in self.order:
@@ -140,14 +163,18 @@ class Problem:
                     yield Conflict(one, other)
 
 
-class _Waiting(typing.NamedTuple):
-    """A need with several open ways; the least one is split first."""
+class _Open(typing.NamedTuple):
+    """A need of a package that is held, as long as nothing that is held satisfies it; `place` is that among the needs of the package.
 
-    open: int
+    `free` is the number of its ways that no nogood shut when it was looked at, at the time `at`.
+    """
+
     rank: float
     place: int
     owner: Held
     element: Element
+    at: int = -1
+    free: int = 0
 
 
 class _Forced(typing.NamedTuple):
@@ -163,30 +190,46 @@ class Search:
     """A search from the goals in one order of needs, and the nogoods that it learns."""
 
     def __init__(self, problem: Problem, seed: int, limit: Limit) -> None:
-        self.problem, self.limit, self.why = problem, limit, typing.cast(Reasons, {})
-        self.of: dict[Held, list[Nogood]] = collections.defaultdict(list)
+        self.problem, self.limit, self.why = problem, limit, dict(problem.known)
+        self.of: dict[Held, list[Without]] = collections.defaultdict(list, {p: mine[:] for p, mine in problem.of_known.items()})  # short ones first
         self.model: frozenset[Held] = frozenset()  # what was held together at last without a nogood
+        self.now, self.touched = 0, typing.cast(typing.Dict[Held, int], {})  # when what can shut a package was held or learnt at last
         luck = random.Random(seed)
         self.rank: dict[Held, float] = {p: (place if seed == 0 else luck.random()) for place, p in enumerate(problem.far)}
-        for conflict in problem.conflicts():
-            self.learn(frozenset((conflict.one, conflict.other)), conflict)
+        limit.spend(len(self.why) // 4)
 
     def learn(self, nogood: Nogood, reason: Reason) -> Nogood:
         if nogood not in self.why:
             self.why[nogood] = reason
+            self.now += 1
             for p in nogood:
-                self.of[p].append(nogood)
+                bisect.insort(self.of[p], Without(nogood - {p}, nogood), key=lambda one: len(one.rest))
+                self.touched[p] = self.now
         return nogood
 
     def need(self, owner: Held, text: str, ways: typing.Iterable[Way]) -> Nogood:
         made = Need(owner, text, tuple(ways))
         return self.learn(made.nogood(), made)
 
-    def shut(self, q: Package, held: typing.Container[Held]) -> Nogood | None:
-        """A nogood of q and what is held, the smallest."""
+    def hold(self, q: Package, held: set[Held]) -> list[_Open]:
+        """Holds one more, whose needs are open then."""
+        held.add(q)
+        self.now += 1
         self.limit.spend(1 + len(self.of[q]) // 4)
-        fit = [n for n in self.of[q] if all(m is q or m in held for m in n)]
-        return min(fit, key=len) if fit else None
+        for one in self.of[q]:
+            for p in one.rest:
+                self.touched[p] = self.now
+        return self.needs_of(q)
+
+    def shut(self, q: Package, held: typing.Set[Held]) -> Nogood | None:
+        """A nogood of q and what is held, the smallest."""
+        mine = self.of[q]
+        self.limit.spend(1 + len(mine) // 4)
+        return next((nogood for rest, nogood in mine if rest <= held), None)
+
+    def is_as_it_was(self, need: _Open) -> bool:
+        """Whether no way of a need can have been shut since it was looked at: then less was held."""
+        return need.at >= 0 and all(self.touched.get(q, 0) <= need.at for q in need.element[1])
 
     def back(self, trail: list[_Forced], nogood: Nogood) -> Nogood:
         """What a failure teaches of what was held before the unit steps."""
@@ -195,46 +238,58 @@ class Search:
                 nogood = self.need(step.owner, step.text, [Way(q, n or nogood) for q, n in step.shut])
         return nogood
 
-    def steps(self, held: set[Held], trail: list[_Forced]) -> tuple[Nogood | None, list[_Waiting]]:
-        """Takes all unit steps; what fails, if something does, and the needs that are open."""
-        queue = sorted(held, key=lambda p: self.rank[p])
-        while True:
-            known = len(queue)
-            waiting: list[_Waiting] = []
-            for p in queue:
-                self.limit.spend()
-                for text, ways in self.problem.hard[p]:
-                    if any(q in held for q in ways):
-                        continue
-                    shut = [(q, self.shut(q, held)) for q in ways]
-                    free = [q for q, nogood in shut if nogood is None]
-                    if not free:
-                        return self.need(p, text, [Way(q, n) for q, n in shut if n is not None]), []
-                    if len(free) > 1:
-                        waiting.append(_Waiting(len(free), self.rank[p], len(waiting), p, (text, ways)))
-                        continue
-                    trail.append(_Forced(free[0], p, text, shut))
-                    held.add(free[0])
-                    queue.append(free[0])
-            if len(queue) == known:
-                return None, waiting
+    def needs_of(self, p: Held) -> list[_Open]:
+        return [_Open(self.rank[p], place, p, element) for place, element in enumerate(self.problem.hard[p])]
 
-    def descend(self, held: set[Held]) -> Nogood | None:
-        """A nogood of what is held; None if it can be together by these conflicts."""
+    def steps(self, held: set[Held], open_: list[_Open], trail: list[_Forced]) -> tuple[Nogood | None, list[_Open]]:
+        """Takes all unit steps; what fails, if something does, and the needs that are open of those that were."""
+        while True:
+            known = len(held)
+            waiting: list[_Open] = []
+            for need in open_:
+                text, ways = need.element
+                if not held.isdisjoint(ways):
+                    continue
+                if self.is_as_it_was(need):
+                    waiting.append(need)
+                    continue
+                shut = [(q, self.shut(q, held)) for q in ways]
+                free = [q for q, nogood in shut if nogood is None]
+                if not free:
+                    return self.need(need.owner, text, [Way(q, n) for q, n in shut if n is not None]), []
+                if len(free) > 1:
+                    waiting.append(need._replace(at=self.now, free=len(free)))
+                    continue
+                trail.append(_Forced(free[0], need.owner, text, shut))
+                open_ += self.hold(free[0], held)
+            self.limit.spend(1 + len(open_) // 4)
+            if len(held) == known:
+                return None, waiting
+            open_ = waiting
+
+    def refute(self, goals: typing.Iterable[Held]) -> Nogood | None:
+        """A nogood of goals; None if they can be together by these conflicts."""
+        return self.descend(set(goals), [need for goal in goals for need in self.needs_of(goal)])
+
+    def descend(self, held: set[Held], open_: list[_Open]) -> Nogood | None:
+        """A nogood of what is held, whose needs are satisfied but for the open ones; None if it can be together by these conflicts."""
         trail: list[_Forced] = []
-        nogood, waiting = self.steps(held, trail)
+        nogood, waiting = self.steps(held, sorted(open_, key=lambda need: need[:2]), trail)
         if nogood is None and waiting:
-            nogood = self.split(held, min(waiting))
+            nogood = self.split(held, min(waiting, key=lambda need: (need.free, need.rank, need.place)), waiting)
         elif nogood is None:
             self.model = frozenset(held)
         return nogood and self.back(trail, nogood)
 
-    def split(self, held: set[Held], need: _Waiting) -> Nogood | None:
+    def split(self, held: set[Held], need: _Open, open_: list[_Open]) -> Nogood | None:
         """The nogood of a need each of whose ways fails; that of one way, if its end does not need its choice."""
         text, packages = need.element
         ways: list[Way] = []
         for q in packages:
-            nogood = self.shut(q, held) or self.descend(held | {q})
+            nogood = self.shut(q, held)
+            if nogood is None:
+                more = set(held)
+                nogood = self.descend(more, open_ + self.hold(q, more))
             if nogood is None or q not in nogood:
                 return nogood
             ways.append(Way(q, nogood))
@@ -285,6 +340,7 @@ class Upwards:
     def go_on(self, cost: int, nogood: Nogood) -> None:
         """Offers what follows from a nogood and those that were found before."""
         for q in packages_in(nogood):
+            self.limit.spend(len(self.problem.owners[q]) // 2)
             for owner, (text, ways) in self.problem.owners[q]:
                 others = [w for w in ways if w is not q]
                 if all(self.of[w] for w in others):
@@ -293,6 +349,7 @@ class Upwards:
     def join(self, cost: int, nogood: Nogood, need: Need, others: list[Package]) -> None:
         """Offers a need with each choice of nogoods of its other ways."""
         base = cost + need.lines
+        self.limit.spend(sum(len(self.of[w]) for w in others) // 8)
         choices = [[n for n in self.of[w] if self.cost[n] + base + len(others) - 1 < self.bound] for w in others]
         for chosen in itertools.product(*choices):
             self.limit.spend(1 + len(need.ways))
@@ -308,9 +365,9 @@ def from_goals(problem: Problem, steps: int) -> Refutation | None:
     best: Refutation | None = None
     limit = Limit(steps)
     for seed in range(ORDERS):
-        search = Search(problem, seed, limit)
         try:
-            root = search.descend(set(problem.goals))
+            search = Search(problem, seed, limit)
+            root = search.refute(problem.goals)
         except TooLarge:
             break
         if root is None:

@@ -6,7 +6,7 @@ old. Here the stops go, with all that only they used (stops.py), the addresses o
 (hints.py) and `main` (start.py) come in.
 
 Nothing rests on this being right: tools/compile compares the bytes of the program with those of the program that was proved, and says so if they
-differ. If a later kit writes another module, tools/compare_programs names the first function that differs, and tools/compare_modules its lines.
+differ. If a later kit writes another module, dev/compare_programs names the first function that differs, and dev/compare_modules its lines.
 """
 
 from __future__ import annotations

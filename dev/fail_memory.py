@@ -1,8 +1,8 @@
 #!/usr/bin/env python3
 """Runs the built program with each of its allocations failing in turn, and with all failing from each on.
 
-    tools/fail_memory.py            over the cases below, which have each command
-    tools/fail_memory.py WORDS..    over these words, in the caller's folder
+    dev/fail_memory.py            over the cases below, which have each command
+    dev/fail_memory.py WORDS..    over these words, in the caller's folder
 
 The answer is to stay what it is, or to become that of want of memory: status 7 with its line, or 11 while the
 words are being found, and an empty report. The contract of `run` promises this over a shelf that tells its files,
@@ -16,6 +16,7 @@ import sys
 import tempfile
 
 sys.dont_write_bytecode = True
+sys.path.insert(1, os.path.join(os.path.dirname(os.path.realpath(__file__)), "..", "tools"))
 from built import BUILT, require
 
 # Stands before the allocator of glibc, counts the calls into the file COUNT, and lets some fail.

@@ -1,16 +1,18 @@
 #!/usr/bin/env python3
 """Checks that the two forms of a kernel say the same.
 
-    tools/compare_forms.py [--clause-limit N] [--hold] INDEX
+    dev/compare_forms.py [--clause-limit N] [--hold] INDEX
 
 Runs `coinst kernel` on the index with and without `--json`, reads both forms with programs that share no code with it, and
 compares the classes one by one. The last line tells how many there are; status 1 where two differ.
 """
 import json
+import os
 import subprocess
 import sys
 
 sys.dont_write_bytecode = True
+sys.path.insert(1, os.path.join(os.path.dirname(os.path.realpath(__file__)), "..", "tools"))
 from built import BUILT, require
 
 

@@ -1,7 +1,7 @@
 #!/usr/bin/env python3
 """Checks our order of versions against dpkg's, on every version of a Packages index.
 
-    tools/check_index.py INDEX [PROGRAM]
+    dev/check_index.py INDEX [PROGRAM]
 
 PROGRAM is the built program `tool_versions` (run `rt run` in crates/tool_versions once). The versions are those of
 the Version fields and those in relation fields. Each is compared with itself, with its two neighbours in the order of
@@ -15,6 +15,7 @@ import subprocess
 import sys
 
 sys.dont_write_bytecode = True
+sys.path.insert(1, os.path.join(os.path.dirname(os.path.realpath(__file__)), "..", "tools"))
 import dpkg
 from built import require
 from command import HERE, parser_of, run

@@ -1,7 +1,7 @@
 #!/usr/bin/env python3
 """Writes what `tool_versions` is run on by the gate, and what it has to answer, by asking dpkg.
 
-    tools/version_pairs.py
+    dev/version_pairs.py
 
 Each two versions of a group are compared, in both orders. Where dpkg warns or refuses, the answers stand here. The gate needs no
 dpkg.
@@ -12,6 +12,7 @@ import os
 import sys
 
 sys.dont_write_bytecode = True
+sys.path.insert(1, os.path.join(os.path.dirname(os.path.realpath(__file__)), "..", "tools"))
 import dpkg
 from command import parser_of, run
 

@@ -1,8 +1,8 @@
 #!/usr/bin/env python3
 """Runs the built program with each of its openings, reads, closings and writes refused in turn.
 
-    tools/fail_calls.py            over the cases of tools/fail_memory.py, which have each command
-    tools/fail_calls.py WORDS..    over these words, in the caller's folder; a word that is a file is one that is read
+    dev/fail_calls.py            over the cases of dev/fail_memory.py, which have each command
+    dev/fail_calls.py WORDS..    over these words, in the caller's folder; a word that is a file is one that is read
 
 A refused opening or read is to end with status 5 and the path of the file, a refused write of a report with status 6 and 0 bytes. A
 message that cannot be written is lost, or what is left of it, and the status stays. A refused closing changes nothing, and neither does an opening that was
@@ -17,6 +17,7 @@ import sys
 import tempfile
 
 sys.dont_write_bytecode = True
+sys.path.insert(1, os.path.join(os.path.dirname(os.path.realpath(__file__)), "..", "tools"))
 from built import BUILT, leave, require
 from fail_memory import CASES, FILES
 

@@ -1,14 +1,16 @@
 #!/usr/bin/env python3
 """Counts the packages of an index with a dependency that nothing satisfies, straight from its text.
 
-    tools/count_unmet.py INDEX
+    dev/count_unmet.py INDEX
 
 It shares no code with the program, whose count `bench/suite INDEX` prints; it reads by tools/debian_index.py, as other scripts do.
 """
 
+import os
 import sys
 
 sys.dont_write_bytecode = True
+sys.path.insert(1, os.path.join(os.path.dirname(os.path.realpath(__file__)), "..", "tools"))
 from command import parser_of, run
 from debian_index import Index
 

@@ -74,6 +74,13 @@ def answers(pipe: Connection, others: Sequence[Connection], gate: Any, make: Cal
         pipe.send(answer)
 
 
+def received(pipe: Connection) -> Any:
+    """What a pipe brings; a signal that comes just before a wait is seen after it."""
+    while not pipe.poll(1):
+        pass
+    return pipe.recv()
+
+
 class Archive:
     """The architectures, and the pipes to their processes."""
 
@@ -100,7 +107,7 @@ class Archive:
     def ask_each(self, method: Callable[..., Answer], words: dict[str, tuple[Any, ...]]) -> dict[str, Answer]:
         for name in words:
             self.pipes[name].send((method, words[name]))
-        found = {name: self.pipes[name].recv() for name in words}
+        found = {name: received(self.pipes[name]) for name in words}
         for answer in found.values():
             if isinstance(answer, Exception):
                 raise answer

@@ -35,6 +35,7 @@ OPENERS: dict[str, Callable[[str], BinaryIO]] = {".xz": lzma.open, ".gz": gzip.o
 ARCHITECTURE = re.compile(rb"^Architecture:[ \t]*(\S+)", re.I | re.M)
 PIECE = 1 << 20
 BYTES_FOR_A_BYTE = 6  # of memory, for each byte of the two indexes of an architecture
+ENDING = {signal.SIGTERM, signal.SIGHUP, signal.SIGINT}
 UNREADABLE, EMPTY = 5, 2  # statuses: as the program has it for a file that it cannot read; of files that nothing can be done with
 
 
@@ -204,6 +205,7 @@ def work(pair: Pair, job: Job) -> None:
     os.setpgid(0, 0)
     signal.signal(signal.SIGTERM, signal.SIG_DFL)
     gc.disable()  # next to nothing that it makes is a circle, and the looking takes a tenth of its time
+    signal.pthread_sigmask(signal.SIG_UNBLOCK, ENDING)
     try:
         found = study_or_refusal(pair, job)
     except Exception:
@@ -223,14 +225,18 @@ class Crew:
     def begin(self, pair: Pair) -> None:
         os.mkdir(pair.folder)
         process = multiprocessing.get_context("fork").Process(target=work, args=(pair, self.job))
+        signal.pthread_sigmask(signal.SIG_BLOCK, ENDING)  # until it is known here, so that none is left
         process.start()
         with contextlib.suppress(OSError):  # the process does so too, whoever is first
             os.setpgid(process.pid, process.pid)
         self.at_work[process] = pair
+        signal.pthread_sigmask(signal.SIG_UNBLOCK, ENDING)
 
     def wait(self) -> Iterator[Study | Refused]:
         """What the processes have found that end next."""
-        ready = multiprocessing.connection.wait([process.sentinel for process in self.at_work])
+        ready = []
+        while not ready:  # a signal that comes just before a wait is seen after it
+            ready = multiprocessing.connection.wait([process.sentinel for process in self.at_work], 1)
         for process in [process for process in self.at_work if process.sentinel in ready]:
             process.join()
             pair = self.at_work.pop(process)

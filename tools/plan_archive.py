@@ -78,6 +78,13 @@ def answers(pipe: Connection, others: Sequence[Connection], gate: Any, make: Cal
         pipe.send(answer)
 
 
+def received(pipe: Connection) -> Any:
+    """What a pipe brings; a signal that comes just before a wait is seen after it."""
+    while not pipe.poll(1):
+        pass
+    return pipe.recv()
+
+
 class Archive:
     """The architectures, and the pipes to their processes."""
 
@@ -106,7 +113,7 @@ class Archive:
             self.pipes[name].send((method, words[name]))
         for name in words:
             try:
-                found[name] = self.pipes[name].recv()
+                found[name] = received(self.pipes[name])
             except EOFError:
                 raise Refused(NOT_BUILT, "plan: %s: the process that asks about it has ended\n" % name) from None
         for answer in found.values():

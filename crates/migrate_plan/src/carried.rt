@@ -1,5 +1,5 @@
 //! What is handed on from mix to mix.
-ghost use Rattle.std.specs.{Prelude.{◌<◌, IfOk, length}, Option.{ForSome}};
+ghost use Rattle.std.specs.{Prelude.{◌≡◌, ◌<◌, false, IfOk, length}, Option.{ForSome}};
 ghost use Rattle.kernel_rounds.specs.Known.{AreKnownRounds};
 ghost use Rattle.suite_part.specs.{BaseRows.{AreBaseRows}, Mixes.{AreMixRows}};
 ghost use Rattle.migrate_plan.specs.{declared.whole.Whole.{Whole}, Whole.{CanFollow, HasMixRows, IsBaseFor, IsCarried, IsWhole, KnowsRounds}};
@@ -56,10 +56,11 @@ fn base_of(alloc: Global, whole: &Whole) -> Result<Option<Base>, AllocError>
 }
 
 /// Keeps what is known of a mix: its rows as the base if its name was taken, and the rounds after the first if it was, or if none are kept.
-/// Which are kept affects time alone.
+/// Which rounds are kept affects time alone.
 pub(crate) fn keep(carried: &mut Carried, made: MadeKernel, flags: Vec<bool>, is_taken: bool)
     requires { CanFollow carried.old.base flags.items made }
-    ensures { (whole : Whole) → IsCarried whole carried.old → KnowsRounds made → HasMixRows whole carried.old.base flags.items made → IsCarried whole carried.new }
+    ensures refused { is_taken ≡ false → carried.new.base ≡ carried.old.base }
+    ensures carried { (whole : Whole) → IsCarried whole carried.old → KnowsRounds made → HasMixRows whole carried.old.base flags.items made → IsCarried whole carried.new }
 {
     let MadeKernel::Beside { classified, rows } = made else {
         return;

@@ -70,7 +70,7 @@ returns-clause-carried c =
     let flags = c.args.flags.items in
     let rows = subst (λ base. HasMixRows whole base flags c.in-Some.made) (sym c.told_by.ensures.base)
     (subst (λ f. HasMixRows whole c.kernel_in.new.carried.base f c.in-Some.made) c.deref.ensures.value (c.in_ok-made.ensures.rows _ c.in-Some.is)) in
-    always (IsCarried whole c.keep.new.carried) c.line_by_first.result (c.keep.ensures whole (record {
+    always (IsCarried whole c.keep.new.carried) c.line_by_first.result (c.keep.ensures.carried whole (record {
       base_is = subst (λ base. ForSome base (IsBaseFor whole)) (sym c.told_by.ensures.base) c.in_ok-made.ensures.carried.base_is;
       known_are = c.in_ok-told.ensures.known;
       rounds_are = subst (λ rounds. ForSome rounds AreKnownRounds) (sym c.told_by.ensures.rounds) c.in_ok-made.ensures.carried.rounds_are;

@@ -15,7 +15,7 @@ from hitting import smallest
 from refutation import Goal
 from refutation_search import Limit, Problem, Search, TooLarge
 
-STEPS = 800_000  # of all searches together; a step takes some microseconds
+STEPS = 600_000  # of all searches together; a step takes some microseconds
 MOST_CORES = 600
 
 

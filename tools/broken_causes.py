@@ -165,7 +165,7 @@ class Search:
         names = names_of(lines)
         self.needs = Needs(new, names)
         reached = {package.name for package in new.reach(names)}
-        self.changes = Changes(old, new, self.needs, Needs(old, sorted(reached.union(names))), asking)
+        self.changes = Changes(old, new, self.needs, sorted(reached.union(names)), asking)
         self.causes: dict[tuple[str, ...], Cause] = {}
 
     def put(self, line: Line, reasons: list[Reason]) -> Cause:

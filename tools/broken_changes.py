@@ -7,6 +7,7 @@ from __future__ import annotations
 
 import collections
 import dataclasses
+import functools
 import itertools
 import os
 import typing
@@ -15,10 +16,9 @@ from collections.abc import Iterable, Iterator
 from broken_proof import proof_of
 from broken_records import Conflict, Line, Moved, Relation, Source, Step, Why
 from debian_index import AGAINST, NEED, Index, Package, atoms_of, parse_atom, version_key
-from needs import Needs, ways
+from needs import Chain, Needs, ways
 
 Clash = tuple[Package, Package]
-Chain = list[tuple[Package, str | None, int]]
 Strike = dict[Package, set[tuple[str, str]]]
 Link = tuple[Package, str, Package]
 
@@ -105,13 +105,18 @@ def merged(strikes: Iterable[Strike]) -> Strike:
 class Changes:
     """All changes that were found between two indexes, by their keys."""
 
-    def __init__(self, old: Index, new: Index, needs: Needs, old_needs: Needs, asking: Asks):
-        self.old, self.new, self.needs, self.old_needs, self.asking = old, new, needs, old_needs, asking
+    def __init__(self, old: Index, new: Index, needs: Needs, names: Iterable[str], asking: Asks):
+        self.old, self.new, self.needs, self.names, self.asking = old, new, needs, names, asking
         self.found: dict[str, Change] = {}
         self.unmet_of: dict[str, list[tuple[Package, str]]] = collections.defaultdict(list)
         for element in needs.unmet:
             for owner in needs.owners[element]:
                 self.unmet_of[self.fate(owner, element)[0].key].append((owner, element))
+
+    @functools.cached_property
+    def old_needs(self) -> Needs:
+        """What could not be done without in OLD, by the names that are reached in NEW."""
+        return Needs(self.old, self.names)
 
     def keep(self, change: Change) -> Change:
         """The change of this key that is there already, or else this one."""

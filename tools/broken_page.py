@@ -8,6 +8,7 @@ from __future__ import annotations
 import html
 import math
 import os
+import urllib.parse
 from collections.abc import Iterable, Sequence
 
 from broken_records import Cause, Change, Ended, Group, Report, SetsOf, Source
@@ -36,6 +37,12 @@ def place_of(names: Sequence[str], every: Sequence[str]) -> str:
 
 def folded(summary: str, text: str, kind: str = "") -> str:
     return tag("details", tag("summary", summary) + text, kind)
+
+
+def image(svg: str) -> str:
+    """A picture as a file within the page, so that a text browser prints nothing of it: the text beside it says the same."""
+    drawn = svg.replace("<svg ", '<svg font-family="system-ui, DejaVu Sans, sans-serif" ', 1).replace('"', "'")
+    return '<img alt=" " loading="lazy" src="data:image/svg+xml,%s">' % urllib.parse.quote(drawn, safe=" !'()*,/:;<=>?@[]{}|")
 
 
 def name_list(names: Sequence[str]) -> str:
@@ -218,9 +225,9 @@ class Page:
 
     def why(self, cause: Cause) -> str:
         text = "".join(tag("pre", esc("\n".join(chain))) for chain in cause.chains)
-        if cause.key not in self.pictures:
+        if not self.pictures.get(cause.key):
             return text
-        return folded("as text", text) + tag("div", self.pictures[cause.key], "picture")
+        return folded("as text", text) + tag("div", image(self.pictures[cause.key]), "picture")
 
     def group(self, group: Group) -> str:
         told = tag("div", esc(" ".join(group.names)), "names") if group.names else ""

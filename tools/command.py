@@ -1,7 +1,7 @@
 """What the scripts of this folder share: how they ask the program, what they say, and how they end.
 
 A script that ends by BadWords, BadIndex or a file that it cannot open says so in one line, with status 2; a pipe that is closed ends it
-in silence; SIGTERM ends it as an exit does, so that no folder stays; any other fault of a script ends it with status 70.
+in silence; SIGTERM and Ctrl-C end it as an exit does, so that no folder stays; any other fault of a script ends it with status 70.
 """
 
 from __future__ import annotations
@@ -9,6 +9,7 @@ from __future__ import annotations
 import argparse
 import io
 import os
+import re
 import shutil
 import signal
 import subprocess
@@ -19,6 +20,7 @@ import typing
 
 from built import BUILT, NOT_BUILT, require, say
 from debian_index import TEXT, BadIndex, Package
+from quiet import from_now
 
 HERE = os.path.dirname(os.path.realpath(__file__))
 
@@ -47,6 +49,17 @@ def progress(text: str) -> None:
 def parser_of(text: str | None) -> argparse.ArgumentParser:
     """A reader of words whose help is the head of the script."""
     return argparse.ArgumentParser(description=text, formatter_class=argparse.RawDescriptionHelpFormatter)
+
+
+def add_number(parser: argparse.ArgumentParser, option: str, least: int, default: int | None, text: str) -> None:
+    """An option with a number that must not be smaller."""
+
+    def number(word: str) -> int:
+        if not re.fullmatch("[0-9]{1,9}", word) or int(word) < least:
+            raise BadWords("%s: a number from %d is wanted, not %s" % (option, least, word))
+        return int(word)
+
+    parser.add_argument(option, metavar="N", type=number, default=default, help=text)
 
 
 def program_found() -> str:
@@ -131,6 +144,7 @@ def run(main: typing.Callable[[], int]) -> typing.NoReturn:
     for stream in (sys.stdout, sys.stderr):
         typing.cast(io.TextIOWrapper, stream).reconfigure(errors="surrogateescape")
     try:
+        from_now()
         status = main()
         sys.stdout.flush()
         sys.exit(status)

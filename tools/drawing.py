@@ -153,12 +153,15 @@ def dot_of(why: Why, old: str) -> str:
 
 
 def svgs(dots: Sequence[str]) -> list[str]:
-    """The graphs as SVG, in one call of Graphviz; none if that is not there."""
+    """The graphs as SVG; of one that Graphviz does not draw there is no text, and so of all if it is not there."""
     if not dots or not shutil.which("dot"):
-        return []
+        return [""] * len(dots)
     done = subprocess.run(["dot", "-Tsvg"], input="".join(dots), capture_output=True, encoding="utf-8", errors="replace", check=False)
     found = re.findall(r"<svg.*?</svg>", done.stdout, re.S)
-    return [smaller(svg) for svg in found] if done.returncode == 0 and len(found) == len(dots) else []
+    if done.returncode == 0 and len(found) == len(dots):
+        return [smaller(svg) for svg in found]
+    half = len(dots) // 2  # it may break down over many graphs, and draw each of them
+    return svgs(dots[:half]) + svgs(dots[half:]) if half else [""]
 
 
 def smaller(svg: str) -> str:

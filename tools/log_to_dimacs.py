@@ -14,10 +14,15 @@ those of the query. Class N of the kernel is variable N + 1. FOLDER, which is ma
 
 Ends with status 2 where the report is no refusal.
 """
-import os
+
 import sys
 
 sys.dont_write_bytecode = True
+from quiet import until_run
+
+until_run()
+import os
+
 from command import parser_of, run
 from debian_index import version_key
 

@@ -5,45 +5,71 @@ to a goal are the least set that holds the goal and each package with an element
 set that is closed under needs holds no package that leads to a goal without holding the goal.
 """
 
+from __future__ import annotations
+
 import collections
 import functools
-import itertools
+from collections.abc import Collection, Iterable, Mapping
+from typing import NamedTuple
 
-from debian_index import NEED
+from debian_index import NEED, PLACE, Index, Package
+
+Chain = list[tuple[Package, str | None, int]]  # (package, element, how many packages meet it); the last element is None at a goal
+Strike = Mapping[Package, Collection[tuple[str, str]]]  # elements of packages, by their kinds, that count for nothing
+
+
+class Held(NamedTuple):
+    """That a package is in a set: its place there, and the element that says so; a goal has none."""
+
+    place: int
+    element: str | None
+
+
+Why = dict[Package, Held]
 
 
 class Needs:
-    """The dead packages, and who leads to whom, among those that some names reach; `strike` has elements that count for nothing."""
+    """The dead packages, and who leads to whom, among those that some names reach."""
 
-    def __init__(self, index, names, strike=None):
+    def __init__(self, index: Index, names: Iterable[str], strike: Strike | None = None) -> None:
         self.index, self.strike = index, strike or {}
-        self.owners, self.met_with = collections.defaultdict(list), collections.defaultdict(list)
-        for package in sorted(index.reach(tuple(names)), key=lambda p: p.place):
+        self.owners: dict[str, list[Package]] = collections.defaultdict(list)
+        self.met_with: dict[Package, list[str]] = collections.defaultdict(list)
+        for package in sorted(index.reach(tuple(names)), key=PLACE):
             for element in dict.fromkeys(self.elements(package)):
                 self.owners[element].append(package)
+        self.living: dict[str, int] = {}
         for element in self.owners:
-            for package in index.meeting(element):
+            meeting = index.meeting(element)
+            self.living[element] = len(meeting)
+            for package in meeting:
                 self.met_with[package].append(element)
-        self.unmet = [element for element in self.owners if not index.meeting(element)]
-        self.dead, self.living = {}, {element: len(index.meeting(element)) for element in self.owners}
+        self.unmet = [element for element, count in self.living.items() if not count]
+        self.dead: Why = {}
         self.dead = self.spread((), self.unmet)
-        self.living = {element: sum(p not in self.dead for p in index.meeting(element)) for element in self.owners}
-        self.leading_to = functools.lru_cache(None)(lambda goals: self.spread(goals, ()))
-        self.names_leading_to = functools.lru_cache(None)(self.names_leading_to)
-        self.forced = functools.lru_cache(None)(self.forced)
+        for package in self.dead:
+            for element in self.met_with[package]:
+                self.living[element] -= 1
+        self.leading_to = functools.lru_cache(None)(self.leading_to)  # type: ignore
+        self.names_leading_to = functools.lru_cache(None)(self.names_leading_to)  # type: ignore
+        self.forced = functools.lru_cache(None)(self.forced)  # type: ignore
 
-    def elements(self, package):
-        struck = self.strike.get(package, ())
+    def elements(self, package: Package) -> list[str]:
+        if package not in self.strike:
+            return list(package.needs)
+        struck = self.strike[package]
         return [e for kind in NEED for e in package.relations.get(kind, ()) if (kind, e) not in struck]
 
-    def spread(self, goals, elements):
-        """Which packages cannot be had without a goal, as package: (place, the element that says so), the nearest first."""
-        why, counts, queue = {goal: (place, None) for place, goal in enumerate(goals)}, collections.Counter(), list(goals)
+    def spread(self, goals: Iterable[Package], elements: Iterable[str]) -> Why:
+        """Which packages cannot be had without a goal, the nearest first, and which without one that meets an element."""
+        why: Why = {goal: Held(place, None) for place, goal in enumerate(goals)}
+        counts: collections.Counter[str] = collections.Counter()
+        queue = list(why)
 
-        def hold_owners(element):
+        def hold_owners(element: str) -> None:
             for owner in self.owners[element]:
                 if owner not in why and owner not in self.dead:
-                    why[owner] = len(why), element
+                    why[owner] = Held(len(why), element)
                     queue.append(owner)
 
         for element in elements:
@@ -55,14 +81,19 @@ class Needs:
                     hold_owners(element)
         return why
 
-    def is_dead(self, name):
+    def leading_to(self, goals: tuple[Package, ...]) -> Why:
+        """The packages that lead to a goal."""
+        return self.spread(goals, ())
+
+    def is_dead(self, name: str) -> bool:
         return all(package in self.dead for package in self.index.named[name])
 
-    def names_leading_to(self, goals):
+    def names_leading_to(self, goals: tuple[Package, ...]) -> set[str]:
+        """The names of which each package leads to a goal."""
         why = self.leading_to(goals)
         return {p.name for p in why if all(q in why for q in self.index.named[p.name])}
 
-    def forced(self, name):
+    def forced(self, name: str) -> frozenset[str]:
         """A name, and those that it cannot do without as one living package alone meets an element; there may be others."""
         packages = self.index.named[name]
         inside, todo = {name}, packages if len(packages) == 1 else []
@@ -73,24 +104,25 @@ class Needs:
             inside.update(package.name for package in todo)
         return frozenset(inside)
 
-    def chain_from(self, package, why):
-        """Steps (package, element, how many packages meet it); the last element is None at a goal, or one that nobody meets."""
-        steps = []
+    def chain_from(self, package: Package, why: Why) -> Chain:
+        """The steps from a package to a goal, or to an element that nobody meets."""
+        steps: Chain = []
         while True:
-            element = why[package][1]
+            element = why[package].element
             meeting = [p for p in self.index.meeting(element) if p in why] if element else []
             steps.append((package, element, len(meeting)))
             if not meeting:
                 return steps
-            package = min(meeting, key=lambda p: why[p][0])
+            package = min(meeting, key=lambda p: why[p].place)
 
-    def chain(self, name, why):
-        return self.chain_from(min(self.index.named[name], key=lambda p: why[p][0]), why)
+    def chain(self, name: str, why: Why) -> Chain:
+        return self.chain_from(min(self.index.named[name], key=lambda p: why[p].place), why)
 
 
-def ways(starts, ends, index):
+def ways(starts: Iterable[Package], ends: Collection[Package], index: Index) -> list[Chain]:
     """A shortest way through needs to each of these packages, forced or not, in the form of `Needs.chain`; none to what is not reached."""
-    came, left = dict.fromkeys(starts), set(ends)
+    came: dict[Package, tuple[Package, str, int] | None] = dict.fromkeys(starts)
+    left = set(ends)
     queue = list(came)
     for package in queue:
         left.discard(package)
@@ -105,16 +137,8 @@ def ways(starts, ends, index):
     return [way_back(came, end) for end in ends if end in came]
 
 
-def way_back(came, end):
-    steps = [(end, None, 0)]
-    while came[steps[0][0]]:
-        steps.insert(0, came[steps[0][0]])
-    return steps
-
-
-def chain_lines(steps):
-    """The steps as lines: the first package, and below it each element with what meets it."""
-    lines = [str(steps[0][0])]
-    for (_, element, meeting), (after, _, _) in itertools.pairwise(steps):
-        lines.append("  needs %s: %s%s" % (element, after, " or %d more" % (meeting - 1) if meeting > 1 else ""))
-    return lines + (["  needs %s: nobody" % steps[-1][1]] if steps[-1][1] else [])
+def way_back(came: Mapping[Package, tuple[Package, str, int] | None], end: Package) -> Chain:
+    steps: Chain = [(end, None, 0)]
+    while step := came[steps[-1][0]]:
+        steps.append(step)
+    return steps[::-1]

@@ -3,6 +3,7 @@
 from __future__ import annotations
 
 import dataclasses
+import functools
 import hashlib
 import os
 import sys
@@ -12,6 +13,7 @@ from concurrent.futures import ThreadPoolExecutor
 from command import HERE
 from debian_index import TEXT, Package, atoms_of
 from lost_sets import Kernel, Lost, TooMany
+from plan_always import Always
 from plan_faults import Fault, Faults, Installable
 from plan_mixes import BOTH, NEW, OLD, Built, Everywhere, Files, Mix, Rules, Suites, newest
 from plan_program import Coinst, Line, Refused
@@ -130,6 +132,11 @@ class Asking:
         lines = self.program.ask("compare", [path, self.program.write("dead-" + label, dead)])
         return frozenset(line[1] for line in lines if line[0] == "broken")
 
+    @functools.cached_property
+    def always(self) -> Always:
+        """What the indexes with switches do without."""
+        return Always(self.suites)
+
     # Questions of a plan
 
     def faults_alone(self, sources: Sequence[str]) -> dict[str, list[Fault]]:
@@ -163,7 +170,7 @@ class Asking:
         return digest_of(everything)
 
     def ask_migrate(self, groups: Sequence[Group], come: Mix) -> list[Outcome]:
-        index = encoded(self.suites, groups, come)
+        index = encoded(self.always, groups, come)
         if not index.live:
             return [None] * len(groups)
         paths = [self.program.write("groups-%d" % version, index.file(version)) for version in (0, 1)]

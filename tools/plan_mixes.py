@@ -173,11 +173,11 @@ class Suites:
 
     @functools.cached_property
     def users(self) -> dict[Member, list[str]]:
-        """For each package that may go the elements that it meets."""
+        """For each package the needed elements that it meets."""
         found: dict[Member, list[str]] = collections.defaultdict(list)
-        for element in self.owners:
-            for package in self.meeting(element):
-                if package.takers:
+        with no_collection():
+            for element in self.owners:
+                for package in self.meeting(element):
                     found[package].append(element)
         return found
 

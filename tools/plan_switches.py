@@ -6,6 +6,8 @@ in a mix are in the index. What a group brings needs version 1 of its switch, an
 A name that may be absent from a mix must not be judged there. So all its packages bear another name and provide this one in their
 versions, and beside them stands a package that can be installed exactly if the name is absent. The same is done for a name
 that nobody judges, beside a package without needs, and for packages of one name and of equal versions.
+
+What can be added to every installation (plan_always) is left out, and the needs that it meets are struck.
 """
 
 from __future__ import annotations
@@ -15,10 +17,12 @@ import dataclasses
 from collections.abc import Iterable, Sequence
 
 from debian_index import version_key
-from plan_mixes import NEW, Member, Mix, Suites
+from plan_always import Always, stanza_of
+from plan_mixes import NEW, Member, Mix
 
 SWITCH, RENAMED = "zz-plan-", "zz-was-"
 RESERVED = (SWITCH, RENAMED)
+HOME = SWITCH + "home"
 GROUPS_AT_ONCE = 256  # names that may differ in one call of `migrate`
 Group = Sequence[str]
 
@@ -31,9 +35,9 @@ def place_of(name: str) -> int:
     return int(name[len(SWITCH) :])
 
 
-def stanza(name: str, version: object, depends: Iterable[str] = ()) -> str:
+def stanza(name: str, version: object, depends: Iterable[str] = (), architecture: str = "all") -> str:
     needs = ", ".join(depends)
-    return "Package: %s\nVersion: %s\nArchitecture: all\n%s" % (name, version, "Depends: %s\n" % needs if needs else "")
+    return "Package: %s\nVersion: %s\nArchitecture: %s\n%s" % (name, version, architecture, "Depends: %s\n" % needs if needs else "")
 
 
 @dataclasses.dataclass(frozen=True)
@@ -52,16 +56,14 @@ class Switched:
         value = 0 if self.bringer is None else 1
         return ["%s (= %d)" % (switch(place), value) for place in sorted(self.switches)]
 
-    def text(self, place: int | None) -> str:
-        """The stanza with its switches; under another name, with a version of its own, where it has a place there."""
+    def text(self, place: int | None, relations: dict[str, list[str]]) -> str:
+        """The stanza with these relations and its switches; under another name, with a version of its own, where it has a place there."""
         package = self.package
-        lines = ["Package: " + (package.name if place is None else RENAMED + package.name)]
-        lines += ["Version: " + (package.version if place is None else "1.%d" % place), "Architecture: " + package.architecture]
-        relations = {kind: list(elements) for kind, elements in package.relations.items()}
         relations.setdefault("depends", []).extend(self.needs())
-        if place is not None:
-            relations.setdefault("provides", []).append("%s (= %s)" % (package.name, package.version))
-        return "\n".join(lines + [kind.title() + ": " + ", ".join(elements) for kind, elements in relations.items() if elements]) + "\n"
+        if place is None:
+            return stanza_of(package.name, package.version, package.architecture, relations)
+        relations.setdefault("provides", []).append("%s (= %s)" % (package.name, package.version))
+        return stanza_of(RENAMED + package.name, "1.%d" % place, package.architecture, relations)
 
 
 def absence(members: list[Switched]) -> list[str] | None:
@@ -78,11 +80,11 @@ def has_equal_versions(members: list[Switched]) -> bool:
     return len(members) > 1 and len({repr(version_key(m.package.version)) for m in members}) < len(members)
 
 
-def texts_of_name(name: str, members: list[Switched], is_judged: bool) -> list[str]:
+def texts_of_name(name: str, members: list[Switched], always: Always) -> list[str]:
     """The stanzas of all packages of a name, under another name if it may be absent, is not judged, or has equal versions."""
-    needs = absence(members) if is_judged else []
+    needs = [] if name in always.suites.may_break else absence(members)
     renamed = needs is not None or has_equal_versions(members)
-    texts = [member.text(place if renamed else None) for place, member in enumerate(members)]
+    texts = [member.text(place if renamed else None, always.relations_of(member.package)) for place, member in enumerate(members)]
     return texts if needs is None else texts + [stanza(RENAMED + name, "0~", needs)]
 
 
@@ -98,32 +100,34 @@ class Encoded:
         return "\n".join(self.texts + [stanza(switch(place), version) for place in self.live])
 
 
-def encoded(suites: Suites, groups: Sequence[Group], come: Mix) -> Encoded:
+def encoded(always: Always, groups: Sequence[Group], come: Mix) -> Encoded:
     """The index of groups that may come after the sources that have come."""
     group_of = {source: place for place, group in enumerate(groups) for source in group}
+    always.grow(come | group_of.keys())
     switched: dict[str, list[Switched]] = collections.defaultdict(list)
     plain: list[Member] = []
-    for package in suites.packages:
+    for package in always.suites.packages:
         if package.state == NEW and package.source in group_of:
             switched[package.name].append(Switched(package, bringer=group_of[package.source]))
-        elif package.is_in(come):
+        elif package not in always.packages and package.is_in(come):
             takers = frozenset(group_of[s] for s in package.takers if s in group_of)
-            if takers or package.name in suites.may_break:
+            if takers or package.name in always.suites.may_break:
                 switched[package.name].append(Switched(package, takers))
             else:
                 plain.append(package)
-    return put_together(suites, switched, plain)
+    return put_together(always, switched, plain)
 
 
-def put_together(suites: Suites, switched: dict[str, list[Switched]], plain: list[Member]) -> Encoded:
-    texts = []
+def put_together(always: Always, switched: dict[str, list[Switched]], plain: list[Member]) -> Encoded:
+    home = always.suites.pool.home  # by which relations are read
+    texts = [stanza(HOME, 0, architecture=home)] if home else []
     for package in plain:
         if package.name in switched:
             switched[package.name].append(Switched(package))
         else:
-            texts.append(package.text)
+            texts.append(always.text(package))
     live: set[int] = set()
     for name, members in switched.items():
-        texts += texts_of_name(name, members, name not in suites.may_break)
+        texts += texts_of_name(name, members, always)
         live.update(place for member in members for place in member.switches)
     return Encoded(texts, sorted(live))

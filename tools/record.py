@@ -2,6 +2,7 @@
 
 from __future__ import annotations
 
+import dataclasses
 import hashlib
 import os
 from collections.abc import Iterator
@@ -17,8 +18,6 @@ PROVED_HERE = os.path.join(TOP, "out", "proved-here")
 CODE, ALL = ("src",), ("src", "specs", "proofs")
 HEAD = "# What was proved. tools/proved writes this file, and .ci/run fails if what it has proved is anything else.\n"
 WORDS = ("kit", "sources", "program")
-# The word of the last line, a sum of the others: so a slip of the hand is seen before any program is there.
-LINES = "lines"
 
 
 def sum_of_file(path: str) -> str:
@@ -48,13 +47,30 @@ def sum_of_sources(parts: tuple[str, ...] = ALL) -> str:
     return sum_of_files(paths)
 
 
-def recorded() -> dict[str, str]:
-    """What PROVED says, by its words; nothing if it is not there or no such file."""
+@dataclasses.dataclass
+class Record:
+    """What PROVED says; a word that it lacks is empty. `lines` is a sum of the others, so that a slip of the hand is seen before any program is there."""
+
+    kit: str = ""
+    sources: str = ""
+    program: str = ""
+    lines: str = ""
+
+    def word(self, name: str) -> str:
+        return str(getattr(self, name))
+
+    def sum(self) -> str:
+        """What `lines` has to be."""
+        return hashlib.sha256("".join("%s %s\n" % (word, self.word(word)) for word in WORDS).encode()).hexdigest()
+
+
+def recorded() -> Record:
+    """What PROVED says; nothing if it is not there or no such file."""
     try:
         with open(RECORD, encoding="ascii") as file:
-            return dict(line.strip().split(" ", 1) for line in file if not line.startswith("#"))
-    except (OSError, ValueError):
-        return {}
+            return Record(**dict(line.strip().split(" ", 1) for line in file if not line.startswith("#")))
+    except (OSError, ValueError, TypeError):
+        return Record()
 
 
 def write_whole(path: str, text: str) -> None:
@@ -65,14 +81,10 @@ def write_whole(path: str, text: str) -> None:
     os.replace(part, path)
 
 
-def sum_of_lines(found: dict[str, str]) -> str:
-    return hashlib.sha256("".join("%s %s\n" % (word, found.get(word, "")) for word in WORDS).encode()).hexdigest()
-
-
-def record(found: dict[str, str]) -> None:
+def record(found: Record) -> None:
     """Writes PROVED."""
-    lines = {**{word: found[word] for word in WORDS}, LINES: sum_of_lines(found)}
-    write_whole(RECORD, HEAD + "".join("%s %s\n" % line for line in lines.items()))
+    lines = ["%s %s\n" % (word, found.word(word)) for word in WORDS] + ["lines %s\n" % found.sum()]
+    write_whole(RECORD, HEAD + "".join(lines))
 
 
 def is_proved(program: str) -> bool:
@@ -82,4 +94,4 @@ def is_proved(program: str) -> bool:
             here = file.read().strip()
     except OSError:
         here = ""
-    return sum_of_file(program) in (recorded().get("program"), here)
+    return sum_of_file(program) in (recorded().program, here)

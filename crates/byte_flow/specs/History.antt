@@ -5,21 +5,21 @@ use Rattle.std.specs.Prelude.{ℕ, List, [], ◌∷◌, ◌++◌, Option, Some, 
 abbrev pub OpenedFile : Type 0
 OpenedFile = List ℕ × List ℕ
 
--- a read of the newest file hands over more bytes
+-- the files after a read of the newest one handed over more bytes
 abbrev pub with_more : List ℕ → List OpenedFile → List OpenedFile
 with_more bytes [] = []
 with_more bytes (r ∷ readings) = (r.0, r.1 ++ bytes) ∷ readings
 
--- a start of a path notes a file that was opened, and nothing where none was
+-- the files after a start of a path: one that succeeded adds a file
 abbrev pub after_start : List ℕ → Bool → List OpenedFile → List OpenedFile
 after_start path succeeded readings = if succeeded then (path, []) ∷ readings else readings
 
--- a read notes what it handed over, and nothing where it failed
+-- the files after a read: one that succeeded adds its bytes
 abbrev pub after_read : Option (List ℕ) → List OpenedFile → List OpenedFile
 after_read None readings = readings
 after_read (Some bytes) readings = with_more bytes readings
 
--- more files were read, the first of them first, after those before
+-- the files after more were read, the first of them first
 abbrev pub noted : List OpenedFile → List OpenedFile → List OpenedFile
 noted [] before = before
 noted (r ∷ readings) before = noted readings (r ∷ before)

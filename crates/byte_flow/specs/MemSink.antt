@@ -6,7 +6,7 @@ use Rattle.byte_flow.specs.{declared.mem_sink.MemSink.{MemSink}, Flow.{faults_af
 abbrev pub taken_of : MemSink → List ℕ
 taken_of sink = sink.bytes.items
 
--- the room made so far in all, what is taken included
+-- the room made so far, with what is taken
 abbrev pub made_of : MemSink → ℕ
 made_of sink = sink.made
 
@@ -14,7 +14,7 @@ made_of sink = sink.made
 abbrev pub left_of : MemSink → ℕ
 left_of sink = made_of sink - length (taken_of sink)
 
--- how many writes were made, up to the last number of 64 bits
+-- how many writes were made, up to 2^64 - 1
 abbrev pub calls_of : MemSink → ℕ
 calls_of sink = sink.schedule.calls
 
@@ -33,17 +33,18 @@ faults_of sink = sink.faults.number
 abbrev pub is_waiting : MemSink → Bool
 is_waiting sink = has_pending (calls_of sink) (listed_of sink)
 
--- the room that is sure: what is left, or none where a listed write is still to come
+-- the room that is sure: what is left, or none if a listed write is still to come
 abbrev pub room_of : MemSink → ℕ
 room_of sink = if is_waiting sink then 0 else left_of sink
 
--- how many bytes of a piece a write takes where it does not fail
+-- how many bytes of a piece a write takes if it does not fail
 abbrev pub front_of : MemSink → List ℕ → ℕ
 front_of sink piece = min (step_of sink) (length piece)
 
 -- whether a write fails: it is a listed one, or would take more than the room that is left
 abbrev pub is_refused : MemSink → List ℕ → Bool
-is_refused sink piece = is_next_listed (calls_of sink) (listed_of sink) || nat_lt (left_of sink) (front_of sink piece)
+is_refused sink piece =
+    is_next_listed (calls_of sink) (listed_of sink) || nat_lt (left_of sink) (front_of sink piece)
 
 -- the writes made, the listed ones and the step stay
 pub record KeepsCalls (old new : MemSink) : Type 0 where
@@ -52,7 +53,8 @@ pub record KeepsCalls (old new : MemSink) : Type 0 where
   pub step : step_of new ≡ step_of old
 
 -- a write takes the front of the piece, or takes nothing and raises the count of faults
-pub record Written (old : MemSink) (piece : List ℕ) (answer : Option ℕ) (new : MemSink) : Type 0 where
+pub record Written (old : MemSink) (piece : List ℕ) (answer : Option ℕ)
+    (new : MemSink) : Type 0 where
   pub given : answer ≡ (if is_refused old piece then None else Some (front_of old piece))
   pub taken : taken_of new ≡ taken_of old ++ take (unwrap_or answer 0) piece
   pub made : made_of new ≡ made_of old

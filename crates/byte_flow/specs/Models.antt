@@ -1,4 +1,5 @@
--- What clauses know of a shelf and of a sink: what they hold, and what their calls may answer and leave.
+-- What clauses know of a shelf and of a sink: what they hold, and what their calls may answer and
+-- leave.
 use Rattle.std.specs.Prelude.{ℕ, Bool, List, Option}
 use Rattle.byte_flow.specs.Flow.{Files}
 
@@ -15,7 +16,8 @@ pub record ShelfModel (S : Type 0) : Type 1 where
   pub is_quiet : S → Type 0
   -- what a start of a path may answer, success or not, and leave
   pub start_gives : S → List ℕ → Bool → S → Type 0
-  -- which bytes a read that asks for so many may hand over, none for a failure, and what it may leave
+  -- which bytes a read that asks for this number may hand over, none for a failure, and what it may
+  -- leave
   pub read_gives : S → ℕ → Option (List ℕ) → S → Type 0
 
 pub record SinkModel (S : Type 0) : Type 1 where

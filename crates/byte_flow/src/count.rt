@@ -2,7 +2,7 @@
 ghost use Rattle.std.specs.Prelude.{◌≡◌, ◌<◌, ◌^◌};
 ghost use Rattle.byte_flow.specs.Flow.{raised};
 
-/// A number that rises by one at a time and stands still at its last value.
+/// A number that rises by one at a time, up to 2^64 - 1.
 #[derive(Drop)]
 pub struct Count {
     pub number: u64,
@@ -10,7 +10,7 @@ pub struct Count {
 }
 
 impl Count {
-    /// Nothing was counted.
+    /// A count of nothing.
     pub fn zero() -> Self
         ensures { result.number ≡ 0 }
     {

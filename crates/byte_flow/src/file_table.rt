@@ -18,7 +18,7 @@ pub struct Place {
     pub offset: usize,
 }
 
-/// Stored files, the newest first, so that it hides older ones of its path.
+/// Stored files, the newest first, so that it hides older ones with its path.
 #[derive(Drop)]
 pub struct FileTable {
     pub files: Vec<StoredFile>,
@@ -37,9 +37,10 @@ impl FileTable {
         }
     }
 
-    /// The path then has these bytes, and no file is open; where no memory is found, all stays.
+    /// Gives a path these bytes, and closes the open file.
     pub fn add(&mut self, path: &str, bytes: &[u8]) -> Result<(), AllocError>
-        ensures files { OnOk result (files_in self.new ≡ with_file path.now bytes.now (files_in self.old)) }
+        ensures files { OnOk result (files_in self.new
+            ≡ with_file path.now bytes.now (files_in self.old)) }
         ensures closed { OnOk result (rest_in self.new ≡ []) }
         ensures files_stay { OnErr result (files_in self.new ≡ files_in self.old) }
         ensures rest_stays { OnErr result (rest_in self.new ≡ rest_in self.old) }
@@ -52,7 +53,7 @@ impl FileTable {
         Ok(())
     }
 
-    /// Opens the file at the path, unread, and says whether it is there; else none is open.
+    /// Opens the file at the path, and returns whether it is there. If it is not, no file is open.
     pub fn open(&mut self, path: &str) -> bool
         ensures answer { result ≡ is_some (files_in self.old path.now) }
         ensures files { files_in self.new ≡ files_in self.old }
@@ -62,10 +63,11 @@ impl FileTable {
         self.place.is_some()
     }
 
-    /// The start of the file at the path, if it is there.
+    /// The start of the file at the path, if there is one.
     fn place_of(&self, path: &str) -> Option<Place>
         ensures answer { is_some result ≡ is_some (files_in self.now path.now) }
-        ensures rest { rest_at self.now.files.items result ≡ unwrap_or (files_in self.now path.now) [] }
+        ensures rest { rest_at self.now.files.items result
+            ≡ unwrap_or (files_in self.now path.now) [] }
     {
         match self.index_of(path) {
             Some(file) => Some(Place { file, offset: 0 }),
@@ -75,14 +77,15 @@ impl FileTable {
 
     /// The index of the newest file with the path.
     fn index_of(&self, path: &str) -> Option<usize>
-        ensures { result ≡ position (λ file. bytes_eq (string_bytes file.path) path.now) self.now.files.items }
+        ensures { result
+            ≡ position (λ file. bytes_eq (string_bytes file.path) path.now) self.now.files.items }
     {
         self.files
             .iter()
             .position(|file| file.path.as_str() == path)
     }
 
-    /// No file is open any more.
+    /// Closes the open file.
     pub fn close(&mut self)
         ensures files { files_in self.new ≡ files_in self.old }
         ensures rest { rest_in self.new ≡ [] }
@@ -106,7 +109,7 @@ impl FileTable {
         rest
     }
 
-    /// So many more bytes of the open file are read.
+    /// Counts more bytes of the open file as read.
     pub fn advance(&mut self, count: usize)
         requires { count ≤ length (rest_in self.old) }
         ensures files { files_in self.new ≡ files_in self.old }

@@ -22,7 +22,7 @@ impl MemShelf {
     ghost use Rattle.byte_flow.specs.Flow.{no_files, with_file};
     ghost use Rattle.byte_flow.specs.MemShelf.{KeepsCalls, KeepsCounts, KeepsFiles, calls_of, faults_of, files_of, listed_of, moved_of, rest_of, step_of};
 
-    /// A shelf without files whose reads give at most `step` bytes; it takes no memory.
+    /// A shelf without files whose reads give at most `step` bytes.
     pub fn new(alloc: Global, step: u32) -> Self
         requires { 1 ≤ step }
         ensures files { files_of result ≡ no_files }
@@ -42,9 +42,10 @@ impl MemShelf {
         }
     }
 
-    /// The path then has these bytes, and no file is started; where no memory is found, all stays.
+    /// Gives a path these bytes. No file is started then.
     pub fn add(&mut self, path: &str, bytes: &[u8]) -> Result<(), AllocError>
-        ensures files { OnOk result (files_of self.new ≡ with_file path.now bytes.now (files_of self.old)) }
+        ensures files { OnOk result (files_of self.new
+            ≡ with_file path.now bytes.now (files_of self.old)) }
         ensures rest { OnOk result (rest_of self.new ≡ []) }
         ensures err { OnErr result (KeepsFiles self.old self.new) }
         ensures counts { KeepsCounts self.old self.new }
@@ -53,7 +54,7 @@ impl MemShelf {
         self.table.add(path, bytes)
     }
 
-    /// The call with this number fails; starts and reads are counted together from 1.
+    /// Lets the call with this number fail. Starts and reads are counted together, from 1.
     pub fn fail_at(&mut self, call: u64) -> Result<(), AllocError>
         ensures ok { OnOk result (listed_of self.new ≡ listed_of self.old ++ call ∷ []) }
         ensures err { OnErr result (listed_of self.new ≡ listed_of self.old) }
@@ -65,9 +66,10 @@ impl MemShelf {
         self.schedule.list(call)
     }
 
-    /// Copies a front of the unread rest, and answers its length.
+    /// Copies a front of the unread rest, and returns its length.
     fn give(&self, into: &mut [u8]) -> usize
-        ensures count { result ≡ min self.now.step (min (length into.old) (length (rest_of self.now))) }
+        ensures count { result
+            ≡ min self.now.step (min (length into.old) (length (rest_of self.now))) }
         ensures bytes { take result into.new ≡ take result (rest_of self.now) }
     {
         let rest = self.table.unread();

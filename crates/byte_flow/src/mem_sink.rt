@@ -6,17 +6,17 @@ use crate::schedule::Schedule;
 use crate::{Failed, Sink};
 use std::alloc::{AllocError, Global};
 
-/// A sink in memory, whose writes take at most so many bytes each, and of which chosen ones fail.
+/// A sink in memory. Each write takes at most `step` bytes, and chosen writes fail.
 #[derive(Drop)]
 pub struct MemSink {
     // What was taken.
     bytes: Vec<u8>,
-    // How many bytes it takes in all: memory for so many was found before.
+    // How many bytes it takes in all; memory for them was reserved.
     made: u64,
     // Which of its writes fail.
     schedule: Schedule,
     faults: Count,
-    // How many bytes a write takes at most.
+    // The most bytes that a write takes.
     step: u32,
     ghost has_step: { 0 < step },
     ghost within: { vec_len bytes ≤ made },
@@ -26,7 +26,7 @@ pub struct MemSink {
 impl MemSink {
     ghost use Rattle.byte_flow.specs.MemSink.{KeepsCalls, calls_of, faults_of, listed_of, made_of, step_of, taken_of};
 
-    /// A sink without room whose writes take at most `step` bytes; it takes no memory.
+    /// A sink without room whose writes take at most `step` bytes.
     pub fn new(alloc: Global, step: u32) -> Self
         requires { 1 ≤ step }
         ensures taken { taken_of result ≡ [] }
@@ -45,7 +45,8 @@ impl MemSink {
         }
     }
 
-    /// Makes room for so many bytes in all, those already taken included; a smaller number changes nothing.
+    /// Makes room for this number of bytes in all, with those already taken. A smaller number
+    /// changes nothing.
     pub fn make_room(&mut self, bytes: u64) -> Result<(), AllocError>
         ensures ok { OnOk result (made_of self.new ≡ max bytes (made_of self.old)) }
         ensures err { OnErr result (made_of self.new ≡ made_of self.old) }
@@ -62,7 +63,7 @@ impl MemSink {
         Ok(())
     }
 
-    /// The write with this number, counted from 1, fails.
+    /// Lets the write with this number fail. Writes are counted from 1.
     pub fn fail_at(&mut self, call: u64) -> Result<(), AllocError>
         ensures ok { OnOk result (listed_of self.new ≡ listed_of self.old ++ call ∷ []) }
         ensures err { OnErr result (listed_of self.new ≡ listed_of self.old) }
@@ -87,7 +88,12 @@ impl Sink for MemSink {
     ghost use Rattle.std.specs.Prelude.{Some};
     ghost use Rattle.byte_flow.specs.MemSink.{Written, faults_of, room_of, taken_of};
 
-    ghost model = { record { taken = λ s. Some (taken_of s); faults = faults_of; room = room_of; write_gives = Written } };
+    ghost model = { record {
+      taken = λ s. Some (taken_of s);
+      faults = faults_of;
+      room = room_of;
+      write_gives = Written;
+    } };
 
     ghost counted = { λ s. s.faults.fits };
 
@@ -101,7 +107,7 @@ impl Sink for MemSink {
             self.faults.raise();
             return Err(Failed);
         }
-        // Memory for these bytes was found when room was made.
+        // `make_room` reserved memory for these bytes.
         self.bytes.extend_from_slice(&piece[..count]).unwrap();
         Ok(count)
     }

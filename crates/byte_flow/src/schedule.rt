@@ -1,4 +1,4 @@
-// Numbered calls of which some are to fail.
+// Numbered calls; some are to fail.
 ghost use Rattle.std.specs.{Prelude.{◌≡◌, ◌==◌, ◌∷◌, ◌++◌, [], false, OnOk, OnErr}, List.{list_any}};
 ghost use Rattle.byte_flow.specs.{Flow.{raised}, Schedule.{has_pending, is_next_listed}};
 
@@ -33,13 +33,13 @@ impl Schedule {
         Ok(())
     }
 
-    /// Counts a call, and says whether it is a listed one.
+    /// Counts a call, and returns whether it is a listed one.
     pub fn next(&mut self) -> bool
         ensures answer { result ≡ is_next_listed self.old.calls self.old.listed.items }
         ensures calls { self.new.calls ≡ raised self.old.calls }
         ensures listed { self.new.listed.items ≡ self.old.listed.items }
 
-        // Where no listed call was to come, this was none, and none is to come.
+        // If no listed call was still to come, this is none, and none is to come after it.
         ensures none { has_pending self.old.calls self.old.listed.items ≡ false → result ≡ false }
         ensures none_left { has_pending self.old.calls self.old.listed.items ≡ false
             → has_pending self.new.calls self.new.listed.items ≡ false }

@@ -9,15 +9,17 @@ pub trait Sink {
     /// What the sink took, and what its writes may answer and leave.
     ghost model: { SinkModel Self };
 
-    /// Takes a front of the piece, at least one byte of one that is not empty, and answers its length.
+    /// Takes a front of the piece and returns its length: at least one byte if the piece is not
+    /// empty.
     fn write(&mut self, piece: &[u8]) -> Result<usize, Failed>
         ensures headway { MakesHeadway result piece.now }
-        ensures bytes { WriteAppends (model.taken self.old) (model.taken self.new) result piece.now }
+        ensures bytes { WriteAppends (model.taken self.old)
+            (model.taken self.new) result piece.now }
         ensures cause { HasCause (model.faults self.old) (model.faults self.new) result }
         ensures room { 0 < length piece.now → length piece.now ≤ model.room self.old → IsOk result }
         ensures room_left { model.room self.old ≤ model.room self.new + room_spent result }
         ensures gives { model.write_gives self.old piece.now (result_ok result) self.new };
 
-    /// The count of faults is a number of 64 bits.
+    /// The count of faults fits into 64 bits.
     ghost counted: { (sink : Self) → model.faults sink < 2 ^ 64 };
 }

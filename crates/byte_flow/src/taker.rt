@@ -14,11 +14,12 @@ pub trait Taker {
     /// The most bytes that may be taken in all.
     ghost limit: { Self → ℕ };
 
-    /// Takes the piece behind those before it; all of them together have at most as many bytes as the limit.
+    /// Takes the next piece.
     fn take(&mut self, piece: &[u8]) -> Result<(), AllocError>
         requires { taken self.old + length piece.now ≤ limit self.old }
         ensures limit { limit self.new ≡ limit self.old }
         ensures grows { OnOk result (taken self.new ≡ taken self.old + length piece.now) }
-        ensures stands { OnOk result ((s : List ℕ) → stands_for self.old s → stands_for self.new (s ++ piece.now)) }
+        ensures stands { OnOk result ((s : List ℕ) → stands_for self.old s →
+            stands_for self.new (s ++ piece.now)) }
         ensures keeps { OnErr result (taken self.new ≡ taken self.old) };
 }

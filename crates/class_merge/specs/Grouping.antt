@@ -1,5 +1,5 @@
 -- for the bodies of this crate alone
--- What a grouping of packages by their rows and conflicts answers.
+-- What a grouping of packages by their rows and conflicts returns.
 use Rattle.std.specs.Prelude.{◌≡◌, ℕ, ◌<◌, ◌≤◌, ◌⊎◌, List, [], ◌∷◌, ◌++◌, filter, length, map, slice_index_or}
 use Rattle.clause_pool.specs.{Clauses.{apart_from, in_row_order, minimal_of}, Interned.{Interned}, Lists.{InOrder}}
 use Rattle.row_book.specs.{declared.book.Book.{Book}, Book.{listed_for, repository_of, RowsTidy, Sound}, Flags.{flag}, Parts.{number_in}}
@@ -8,32 +8,40 @@ use Rattle.listed.specs.Lists.{Ascending, In}
 use Rattle.class_merge.specs.{Classes.{image_in}, Masks.{masked_repository, AreGrouped}}
 use Rattle.class_merge.specs.declared.{grouping.Classes.{Classes}, masked.MaskedRows.{MaskedRows}, merging.Families.{Families}}
 
--- the row of a package and its conflicts with packages of the mask: packages of the mask with the same of these are alike
+-- the row of a package and its conflicts with packages of the mask; packages of the mask that agree
+-- in these are alike
 abbrev pub key_of : MaskedRows → ℕ → List ℕ
-key_of masked p = row_id masked.rows.now p ∷ filter (flag masked.flags.now) (listed_for masked.conflicts.now p)
+key_of masked p =
+    row_id masked.rows.now p ∷ filter (flag masked.flags.now) (listed_for masked.conflicts.now p)
 
--- the groups of the packages of a mask, no more than packages, and a place for each package
+-- the groups of the packages of a mask, no more than packages, and a group for each package
 pub record AreClasses (masked : MaskedRows) (classes : Classes) : Type 0 where
-  pub grouped : AreGrouped (masked_repository masked) masked.flags.now classes.firsts.items classes.class_of.items
+  pub grouped : AreGrouped
+      (masked_repository masked) masked.flags.now classes.firsts.items classes.class_of.items
   pub size : length classes.class_of.items ≡ length masked.flags.now
   pub short : length classes.firsts.items ≤ length masked.flags.now
 
--- the list was among the old ones and nothing is new, or was not and is behind them, as the number is behind the numbers
-pub record IsPlaceAmong (old new : List (List ℕ)) (first next : List ℕ) (n : ℕ) (list : List ℕ) (place : ℕ) : Type 0 where
+-- Either the list was among the old ones, and nothing is new; or it was not, and the list and the
+-- number are appended.
+pub record IsPlaceAmong (old new : List (List ℕ)) (first next : List ℕ) (n : ℕ) (list : List ℕ)
+    (place : ℕ) : Type 0 where
   pub within : place < length new
   pub holds : slice_index_or new place [] ≡ list
-  pub gains : (In list old × (new ≡ old) × (next ≡ first)) ⊎ ((In list old → ⊥) × (new ≡ old ++ list ∷ []) × (next ≡ first ++ n ∷ []))
+  pub gains : (In list old × (new ≡ old) × (next ≡ first))
+      ⊎ ((In list old → ⊥) × (new ≡ old ++ list ∷ []) × (next ≡ first ++ n ∷ []))
 
 -- the images of the clauses of a class that do not hold it, in order
 abbrev pub family_in : ℕ → List ℕ → ℕ → List (List ℕ) → List (List ℕ)
 family_in count class_of k cs = in_row_order (apart_from k (map (image_in count class_of) cs))
 
 abbrev pub group_family : Repository → List ℕ → List ℕ → ℕ → List (List ℕ)
-group_family R least group_of k = family_in (length least) group_of k (clauses_of R (number_in least k))
+group_family R least group_of k =
+    family_in (length least) group_of k (clauses_of R (number_in least k))
 
 -- families of clauses that can be interned
 pub record AreFamilies (families : List (List (List ℕ))) : Type 0 where
-  pub ascending : (family : List (List ℕ)) → In family families → (c : List ℕ) → In c family → Ascending c
+  pub ascending : (family : List (List ℕ)) → In family families →
+      (c : List ℕ) → In c family → Ascending c
   pub in_order : (family : List (List ℕ)) → In family families → InOrder family
 
 -- a tidy repository, small enough for a book, with its clauses in no pool
@@ -44,7 +52,7 @@ pub record IsUnpooled (Q : Repository) (made : Families) : Type 0 where
   pub tidy : TidyRepository Q
   pub few : length Q.clauses < 4294967295
 
--- families that can be interned, few enough for a book, with conflicts for each of them
+-- families that can be interned, few enough for a book, with conflicts for each
 pub record FitsBook (made : Families) : Type 0 where
   pub families : AreFamilies made.clauses.items
   pub few : length made.clauses.items < 4294967295

@@ -1,5 +1,5 @@
--- A mask over the packages of a repository, and its packages grouped by their clauses and by their conflicts with each other, all in the
--- numbers of all packages.
+-- A mask over the packages of a repository, and its packages grouped by their clauses and by their
+-- conflicts with each other. All are in the numbers of all packages.
 use Rattle.std.specs.Prelude.{◌≡◌, ℕ, ◌<◌, Bool, true, List, filter, length, map}
 use Rattle.clause_pool.specs.{Compacting.{RowsOf}, Interned.{IsPool, row_at}, Lists.{InOrder}}
 use Rattle.listed.specs.Lists.{Ascending, In}
@@ -7,12 +7,14 @@ use Rattle.row_book.specs.{Flags.{flag}, Merging.{class_of, quotient}, Numbers.{
 use Rattle.row_book.specs.{Repository.{Repository, clauses_of, conflicts_of}, Sound.{SoundRepository}}
 use Rattle.class_merge.specs.{Classes.{class_in, clauses_in, image_in}, declared.masked.MaskedRows.{MaskedRows}}
 
--- a flag for each package, up if it is in the mask; the clauses of those in the mask are in order and name no others
+-- a flag for each package, up if it is in the mask; the clauses of those in the mask are in order
+-- and name no others
 pub record IsMasked (R : Repository) (flags : List Bool) : Type 0 where
   pub sound : SoundRepository R
   pub size : length flags ≡ length R.clauses
   pub order : (p : ℕ) → flag flags p ≡ true → InOrder (clauses_of R p)
-  pub closed : (p : ℕ) → flag flags p ≡ true → (c : List ℕ) → In c (clauses_of R p) → (n : ℕ) → In n c → flag flags n ≡ true
+  pub closed : (p : ℕ) → flag flags p ≡ true → (c : List ℕ) → In c (clauses_of R p) →
+      (n : ℕ) → In n c → flag flags n ≡ true
 
 -- the conflicts of a package with packages of the mask
 abbrev pub against_in_mask : Repository → List Bool → ℕ → List ℕ
@@ -23,39 +25,51 @@ pub record AlikeInMask (R : Repository) (flags : List Bool) (p q : ℕ) : Type 0
   pub clauses : clauses_of R p ≡ clauses_of R q
   pub conflicts : against_in_mask R flags p ≡ against_in_mask R flags q
 
--- the least package of each group, ascending, and for each package of the mask the place of the one that it is like; no lesser package of
--- the mask is like one of these
+-- The least package of each group, ascending, and for each package of the mask the place of the
+-- least package that it is like. No lesser package of the mask is like one of these.
 pub record AreGrouped (R : Repository) (flags : List Bool) (least group_of : List ℕ) : Type 0 where
   pub ascending : Ascending least
   pub there : (p : ℕ) → In p least → flag flags p ≡ true
   pub first : (p q : ℕ) → In p least → flag flags q ≡ true → q < p → AlikeInMask R flags q p → ⊥
   pub within : (p : ℕ) → flag flags p ≡ true → class_in group_of p < length least
-  pub alike : (p : ℕ) → flag flags p ≡ true → AlikeInMask R flags p (number_in least (class_in group_of p))
+  pub alike : (p : ℕ) → flag flags p ≡ true →
+      AlikeInMask R flags p (number_in least (class_in group_of p))
 
 -- the clauses and conflicts of a group, from those of its least package
 abbrev pub group_clauses : Repository → List ℕ → List ℕ → ℕ → List (List ℕ)
-group_clauses R least group_of k = clauses_in (length least) group_of k (clauses_of R (number_in least k))
+group_clauses R least group_of k =
+    clauses_in (length least) group_of k (clauses_of R (number_in least k))
 
 abbrev pub group_conflicts : Repository → List Bool → List ℕ → List ℕ → ℕ → List ℕ
-group_conflicts R flags least group_of k = image_in (length least) group_of (against_in_mask R flags (number_in least k))
+group_conflicts R flags least group_of k =
+    image_in (length least) group_of (against_in_mask R flags (number_in least k))
 
 -- the class of each package of the mask is that of its place in the part
 abbrev pub AreClassesOfPart : Repository → List Bool → List ℕ → Type 0
-AreClassesOfPart R flags group_of = (p : ℕ) → flag flags p ≡ true → class_in group_of p ≡ class_of (part flags R) (place_in flags p)
+AreClassesOfPart R flags group_of = (p : ℕ) → flag flags p ≡ true →
+    class_in group_of p ≡ class_of (part flags R) (place_in flags p)
 
--- what is made of the groups is the quotient of the part, and their places are the classes of its packages
-pub record IsQuotientOfPart (R : Repository) (flags : List Bool) (least group_of : List ℕ) : Type 0 where
-  pub clauses : map (group_clauses R least group_of) (numbers (length least) 0) ≡ (quotient (part flags R)).clauses
-  pub conflicts : map (group_conflicts R flags least group_of) (numbers (length least) 0) ≡ (quotient (part flags R)).conflicts
+-- what is made of the groups is the quotient of the part, and their places are the classes of its
+-- packages
+pub record IsQuotientOfPart (R : Repository) (flags : List Bool)
+    (least group_of : List ℕ) : Type 0 where
+  pub clauses : map (group_clauses R least group_of) (numbers (length least) 0)
+      ≡ (quotient (part flags R)).clauses
+  pub conflicts : map (group_conflicts R flags least group_of) (numbers (length least) 0)
+      ≡ (quotient (part flags R)).conflicts
   pub classes : AreClassesOfPart R flags group_of
 
 abbrev pub QuotientOfPart : Type 0
-QuotientOfPart = (R : Repository) (flags : List Bool) (least group_of : List ℕ) → IsMasked R flags → AreGrouped R flags least group_of →
+QuotientOfPart = (R : Repository) (flags : List Bool) (least group_of : List ℕ) → IsMasked R flags →
+    AreGrouped R flags least group_of →
     IsQuotientOfPart R flags least group_of
 
--- the repository of all packages, of which some are in the mask
+-- the repository of all packages, in the mask or not
 abbrev pub masked_repository : MaskedRows → Repository
-masked_repository masked = record { clauses = map (row_at masked.pool.now) masked.rows.now; conflicts = masked.conflicts.now }
+masked_repository masked = record {
+  clauses = map (row_at masked.pool.now) masked.rows.now;
+  conflicts = masked.conflicts.now;
+}
 
 -- rows of a pool, few enough to be numbered, with a mask over their repository
 pub record IsMaskOfRows (masked : MaskedRows) : Type 0 where

@@ -17,7 +17,8 @@ use std::alloc::{AllocError, Global};
 
 /// Appends the image, unless it holds the class.
 fn push_apart(family: &mut Vec<Clause>, image: Clause, class: u32) -> Result<(), AllocError>
-    ensures { OnOk result (family.new.items ≡ family.old.items ++ cond (has image class) [] (image ∷ [])) }
+    ensures { OnOk result (family.new.items
+        ≡ family.old.items ++ cond (has image class) [] (image ∷ [])) }
 {
     if !holds(image.as_slice(), class) {
         family.push(image)?;
@@ -35,8 +36,10 @@ fn images_apart(
     row: &[ClauseId],
 ) -> Result<Vec<Clause>, AllocError>
     requires of_pool { OfPool pool.now row.now }
-    requires has { (c : List ℕ) → In c (clauses_at pool.now row.now) → HasClasses count class_of.now c }
-    ensures { IfOk result (λ family. family.items ≡ apart_from class (map (image_in count class_of.now) (clauses_at pool.now row.now))) }
+    requires has { (c : List ℕ) → In c (clauses_at pool.now row.now) →
+        HasClasses count class_of.now c }
+    ensures { IfOk result (λ family. family.items
+        ≡ apart_from class (map (image_in count class_of.now) (clauses_at pool.now row.now))) }
 {
     let mut family = Vec::new(alloc);
     for id in row {
@@ -57,7 +60,8 @@ fn class_family(
 ) -> Result<Listed<Clause>, AllocError>
     requires row { row < length pool.now.rows }
     requires has { (c : List ℕ) → In c (row_at pool.now row) → HasClasses count class_of.now c }
-    ensures { IfOk result (λ family. family ≡ in_row_order (apart_from class (map (image_in count class_of.now) (row_at pool.now row)))) }
+    ensures { IfOk result (λ family. family ≡ in_row_order
+        (apart_from class (map (image_in count class_of.now) (row_at pool.now row)))) }
 {
     let mut family = images_apart(alloc, pool, count, class_of, class, pool.row(row))?;
     put_in_order(&mut family);
@@ -72,7 +76,9 @@ pub(crate) fn class_families(
 ) -> Result<Vec<Listed<Clause>>, AllocError>
     requires mask { IsMaskOfRows masked.now }
     requires classes { AreClasses masked.now classes.now }
-    ensures { let firsts = classes.now.firsts.items in IfOk result (λ made. made.items ≡ map (group_family (masked_repository masked.now) firsts classes.now.class_of.items) (numbers (length firsts) 0)) }
+    ensures { let firsts = classes.now.firsts.items in IfOk result (λ made. made.items
+        ≡ map (group_family (masked_repository masked.now) firsts classes.now.class_of.items)
+        (numbers (length firsts) 0)) }
 {
     let count = classes.firsts.len() as u32;
     let class_of = classes.class_of.as_slice();
@@ -93,8 +99,10 @@ pub(crate) fn family_rows(
 ) -> Result<Vec<RowId>, AllocError>
     requires pool { IsPool pool.old }
     requires families { AreFamilies families.now }
-    ensures rows { IfOk result (λ rows. map (row_at pool.new) rows.items ≡ map minimal_of families.now) }
-    ensures of_pool { IfOk result (λ rows. (id : ℕ) → In id rows.items → id < length pool.new.rows) }
+    ensures rows { IfOk result (λ rows. map (row_at pool.new) rows.items
+        ≡ map minimal_of families.now) }
+    ensures of_pool { IfOk result (λ rows. (id : ℕ) → In id rows.items →
+        id < length pool.new.rows) }
     ensures kept { Kept pool.old pool.new }
 {
     let mut rows = Vec::new(alloc);
@@ -112,7 +120,9 @@ pub(crate) fn class_conflicts(
 ) -> Result<Vec<NumList>, AllocError>
     requires mask { IsMaskOfRows masked.now }
     requires classes { AreClasses masked.now classes.now }
-    ensures { let firsts = classes.now.firsts.items in IfOk result (λ lists. lists.items ≡ map (group_conflicts (masked_repository masked.now) masked.now.flags.now firsts classes.now.class_of.items) (numbers (length firsts) 0)) }
+    ensures { let firsts = classes.now.firsts.items in
+        IfOk result (λ lists. lists.items ≡ map (group_conflicts (masked_repository masked.now)
+        masked.now.flags.now firsts classes.now.class_of.items) (numbers (length firsts) 0)) }
 {
     let count = classes.firsts.len() as u32;
     let class_of = classes.class_of.as_slice();

@@ -1,4 +1,6 @@
-//! The groups of packages of a mask that are alike: in a pool, packages have the same clauses if they have the same row.
+//! The groups of packages of a mask that are alike. In a pool equal rows have one number, so
+//! packages have the same clauses exactly if they have the same row: a key of numbers is compared,
+//! and no clause.
 ghost use Rattle.std.specs.{Prelude.{◌≡◌, ◌<◌, ◌∷◌, ◌++◌, [], ℕ, List, IfOk, OnOk, cond, filter, length, map, nat_eq, position}, Cmp.Lexicographic.{pointwise}};
 ghost use Rattle.listed.specs.Lists.{In};
 ghost use Rattle.row_book.specs.Flags.{flag};
@@ -8,15 +10,15 @@ use crate::key_table::KeyTable;
 use crate::masked::MaskedRows;
 use std::alloc::{AllocError, Global};
 
-/// The least package of each class, ascending, and for each package of a mask its class, in the numbers of all packages. The class of any other
-/// package is 0.
+/// The least package of each class, ascending, and for each package of a mask its class, in the
+/// numbers of all packages. The class of any other package is 0.
 #[derive(Drop)]
 pub(crate) struct Classes {
     pub(crate) firsts: Vec<u32>,
     pub(crate) class_of: Vec<u32>,
 }
 
-/// Puts the row of a package and its conflicts with packages of the mask into the key, in the place of what it had.
+/// Fills the key anew: with the row of a package and its conflicts with packages of the mask.
 fn put_key(key: &mut Vec<u64>, masked: &MaskedRows, number: usize) -> Result<(), AllocError>
     requires mask { IsMaskOfRows masked.now }
     requires number { number < length masked.now.rows.now }
@@ -40,14 +42,15 @@ fn put_flagged(key: &mut Vec<u64>, numbers: &[u32], flags: &[bool]) -> Result<()
     Ok(())
 }
 
-/// The place of the key among those that were seen. A new key is appended, and the package is then the first of its class.
+/// The number of a key. A new key gets the next number, and its package begins a class.
 fn place_among(
     seen: &mut KeyTable,
     firsts: &mut Vec<u32>,
     number: u32,
     key: &[u64],
 ) -> Result<usize, AllocError>
-    ensures { IfOk result (IsPlaceAmong seen.old seen.new firsts.old.items firsts.new.items number key.now) }
+    ensures { IfOk result
+        (IsPlaceAmong seen.old seen.new firsts.old.items firsts.new.items number key.now) }
 {
     if let Some(place) = seen.find(key) {
         return Ok(place);

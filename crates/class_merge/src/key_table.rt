@@ -22,7 +22,7 @@ impl Model for KeyTable {
 }
 
 impl KeyTable {
-    /// No keys; it takes no memory.
+    /// No keys.
     pub fn new(alloc: Global) -> Self
         ensures { result ≡ [] }
     {
@@ -38,7 +38,7 @@ impl KeyTable {
         self.keys.get_index_of(key)
     }
 
-    /// Puts a key behind the others, and answers its place.
+    /// Appends a key, and returns its place.
     pub fn push(&mut self, key: &[u64]) -> Result<usize, AllocError>
         requires { position (pointwise nat_eq key.now) self.old ≡ None }
         ensures place { IfOk result (λ place. place ≡ length self.old) }

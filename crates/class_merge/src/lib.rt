@@ -1,5 +1,5 @@
-//! Merging: packages with the same clauses and the same conflicts become one class. The functions of `laws` do nothing,
-//! the contract of each is one law.
+//! Merging: packages with the same clauses and the same conflicts become one class. The functions
+//! of `laws` do nothing: the contract of each is one law.
 #![tactic(auto)]
 
 mod class_rows;

@@ -1,4 +1,4 @@
-//! Packages of a mask over those of a repository.
+//! Rows of a repository, with a mask over its packages.
 
 use clause_pool::{NumList, Pool, RowId};
 
@@ -9,7 +9,7 @@ pub struct MaskedRows<'a> {
     pub pool: &'a Pool,
     /// For each package its row.
     pub rows: &'a [RowId],
-    /// For each package those that it conflicts with.
+    /// For each package the packages that it conflicts with.
     pub conflicts: &'a [NumList],
     /// For each package whether it is in the mask.
     pub flags: &'a [bool],

@@ -23,13 +23,16 @@ pub struct Merged {
     pub class_of: NumList,
 }
 
-/// The merged book: packages with the same clauses and the same conflicts become one class. What the pool held stays; it
-/// fails only where no memory is found.
+/// The merged book: packages with the same clauses and the same conflicts become one class. What
+/// the pool held stays.
 pub fn merge(alloc: Global, pool: &mut Pool, book: &Book) -> Result<Merged, AllocError>
     requires { Sound pool.old book.now }
-    ensures quotient { IfOk result (λ made. repository_of pool.new made.book ≡ quotient (repository_of pool.old book.now)) }
-    ensures class_of { IfOk result (λ made. made.class_of ≡ class_list (repository_of pool.old book.now)) }
-    ensures keeps { IfOk result (λ made. KeepsImages (repository_of pool.old book.now) (repository_of pool.new made.book) (image (repository_of pool.old book.now))) }
+    ensures quotient { IfOk result (λ made. repository_of pool.new made.book
+        ≡ quotient (repository_of pool.old book.now)) }
+    ensures class_of { IfOk result (λ made. made.class_of
+        ≡ class_list (repository_of pool.old book.now)) }
+    ensures keeps { IfOk result (λ made. KeepsImages (repository_of pool.old book.now)
+        (repository_of pool.new made.book) (image (repository_of pool.old book.now))) }
     ensures sound { IfOk result (λ made. Sound pool.new made.book) }
     ensures tidy { IfOk result (λ made. RowsTidy pool.new made.book.rows) }
     ensures kept { Kept pool.old pool.new }
@@ -38,8 +41,9 @@ pub fn merge(alloc: Global, pool: &mut Pool, book: &Book) -> Result<Merged, Allo
     interned(alloc, pool, made)
 }
 
-/// The merged book of the packages of a mask, over a pool of its own, with the class of each of them in the numbers of all packages. Packages with
-/// the same clauses and the same conflicts with packages of the mask become one class. That of a package that is not in the mask says nothing.
+/// The merged book of the packages of a mask, in a pool of its own. Packages with the same clauses
+/// and the same conflicts with packages of the mask become one class. The class of each package of
+/// the mask is in the numbers of all packages; that of another package says nothing.
 pub fn merge_chosen(
     alloc: Global,
     pool: &mut Pool,
@@ -47,8 +51,10 @@ pub fn merge_chosen(
 ) -> Result<Merged, AllocError>
     requires pool { IsPool pool.old }
     requires mask { IsMaskOfRows masked.now }
-    ensures quotient { IfOk result (λ made. repository_of pool.new made.book ≡ quotient (part masked.now.flags.now (masked_repository masked.now))) }
-    ensures class_of { IfOk result (λ made. AreClassesOfPart (masked_repository masked.now) masked.now.flags.now made.class_of) }
+    ensures quotient { IfOk result (λ made. repository_of pool.new made.book
+        ≡ quotient (part masked.now.flags.now (masked_repository masked.now))) }
+    ensures class_of { IfOk result (λ made.
+        AreClassesOfPart (masked_repository masked.now) masked.now.flags.now made.class_of) }
     ensures size { IfOk result (λ made. length made.class_of ≡ length masked.now.flags.now) }
     ensures sound { IfOk result (λ made. Sound pool.new made.book) }
     ensures tidy { IfOk result (λ made. RowsTidy pool.new made.book.rows) }
@@ -69,8 +75,10 @@ struct Families {
 // The classes of the packages of a mask.
 fn families_of(alloc: Global, masked: &MaskedRows) -> Result<Families, AllocError>
     requires { IsMaskOfRows masked.now }
-    ensures quotient { IfOk result (IsUnpooled (quotient (part masked.now.flags.now (masked_repository masked.now)))) }
-    ensures class_of { IfOk result (λ made. AreClassesOfPart (masked_repository masked.now) masked.now.flags.now made.class_of.items) }
+    ensures quotient { IfOk result
+        (IsUnpooled (quotient (part masked.now.flags.now (masked_repository masked.now)))) }
+    ensures class_of { IfOk result (λ made.
+        AreClassesOfPart (masked_repository masked.now) masked.now.flags.now made.class_of.items) }
     ensures size { IfOk result (λ made. length made.class_of.items ≡ length masked.now.flags.now) }
 {
     let classes = classes_of(alloc, masked)?;
@@ -87,7 +95,8 @@ fn families_of(alloc: Global, masked: &MaskedRows) -> Result<Families, AllocErro
 fn families_of_book(alloc: Global, pool: &Pool, book: &Book) -> Result<Families, AllocError>
     requires { Sound pool.now book.now }
     ensures quotient { IfOk result (IsUnpooled (quotient (repository_of pool.now book.now))) }
-    ensures class_of { IfOk result (λ made. made.class_of.items ≡ class_list (repository_of pool.now book.now)) }
+    ensures class_of { IfOk result (λ made. made.class_of.items
+        ≡ class_list (repository_of pool.now book.now)) }
 {
     let flags = all_flags(alloc, book.size())?;
     let masked = MaskedRows {
@@ -99,18 +108,19 @@ fn families_of_book(alloc: Global, pool: &Pool, book: &Book) -> Result<Families,
     families_of(alloc, &masked)
 }
 
-// So many flags, all of them up.
+// Flags for all packages, all of them up.
 fn all_flags(alloc: Global, count: u32) -> Result<Vec<bool>, AllocError>
     ensures { IfOk result (λ flags. flags.items ≡ replicate count true) }
 {
     vec![in alloc; true; count as usize]
 }
 
-// Their book, in a pool.
+// The book of classes, in a pool.
 fn interned(alloc: Global, pool: &mut Pool, made: Families) -> Result<Merged, AllocError>
     requires pool { IsPool pool.old }
     requires fits { FitsBook made }
-    ensures book { (Q : Repository) → IsUnpooled Q made → IfOk result (λ merged. IsTidyBook pool.new merged.book Q) }
+    ensures book { (Q : Repository) → IsUnpooled Q made →
+        IfOk result (λ merged. IsTidyBook pool.new merged.book Q) }
     ensures class_of { IfOk result (λ merged. merged.class_of ≡ made.class_of.items) }
     ensures kept { Kept pool.old pool.new }
 {

@@ -1,6 +1,8 @@
 -- for the bodies of this crate alone
--- Which packages see to it that a clause is hit: those that are filed under one of its members with a clause that lies within
--- it. A package that does so without being a member has such a clause, whose first number is a member.
+--
+-- Which packages see to it that a clause is hit: those that are filed under one of its members with
+-- a clause that lies within it. A package that does so without being a member has such a clause,
+-- whose first number is a member.
 use Rattle.std.specs.{Prelude.{◌≡◌, ◌<◌, ◌%◌, ◌⊎◌, ◌&&◌, ◌||◌, ℕ, Bool, true, eqb, List, [], ◌∷◌, length, map, slice_index_or}, List.{list_any}, Global.{Vec}}
 use Rattle.clause_pool.specs.Interned.{Interned, clause_at}
 use Rattle.listed.specs.Lists.{In, has, is_inside}
@@ -22,28 +24,29 @@ filed_in always lists = record { always = always; lists = entries_in lists }
 abbrev pub entries_at : List (List Entry) → ℕ → List Entry
 entries_at lists place = slice_index_or lists place []
 
--- the list that a number has, with others
+-- the list of a number, which other numbers share
 abbrev pub under : List (List Entry) → ℕ → List Entry
 under lists number = entries_at lists (number % length lists)
 
--- the package stands in the list with this clause
+-- the list has the package with this clause
 pub record Stands (pool : Interned) (entries : List Entry) (n : ℕ) (c : List ℕ) : Type 0 where
   pub entry : Entry
   pub there : In entry entries
   pub holder : entry.holder ≡ n
   pub clause : clause_at pool entry.clause ≡ c
 
--- the package is filed for its clause: among those that are always asked, or under the first number of the clause if that is
--- one of the members
+-- the package is filed for its clause: among those that are always asked, or under the first number
+-- of the clause if that is one of the members
 abbrev pub IsFiled : Interned → List ℕ → Filed → List ℕ → ℕ → Type 0
 IsFiled pool members f [] n = In n f.always
-IsFiled pool members f (x ∷ c) n = In x members → In n f.always ⊎ Stands pool (under f.lists x) n (x ∷ c)
+IsFiled pool members f (x ∷ c) n = In x members →
+    In n f.always ⊎ Stands pool (under f.lists x) n (x ∷ c)
 
 -- whether the entry is of the package, and its clause lies within d
 abbrev pub tells_within : Interned → List ℕ → ℕ → Entry → Bool
 tells_within pool d n e = eqb n e.holder && is_inside (clause_at pool e.clause) d
 
--- whether one of the entries is so
+-- whether one of the entries is of the package with a clause within d
 abbrev pub tell_within : Interned → List Entry → List ℕ → ℕ → Bool
 tell_within pool entries d n = list_any (tells_within pool d n) entries
 
@@ -51,45 +54,52 @@ tell_within pool entries d n = list_any (tells_within pool d n) entries
 abbrev pub filed_within : Interned → List (List Entry) → List ℕ → ℕ → Bool
 filed_within pool lists d n = list_any (λ x. tell_within pool (under lists x) d n) d
 
--- whether the package is asked about every clause, or filed so
+-- whether the package is asked about every clause, or filed under a member of d with a clause
+-- within d
 abbrev pub asks : Interned → Filed → List ℕ → ℕ → Bool
 asks pool f d n = has f.always n || filed_within pool f.lists d n
 
--- each member of the clauses that sees to it that the clause d is hit is a member of d, asked about every clause, or filed
--- with a clause within d
+-- Of the members of the clauses, each that sees to it that the clause d is hit is asked. It is a
+-- member of d, asked about every clause, or filed with a clause within d.
 abbrev pub AsksServing : Interned → Repository → List (List ℕ) → Filed → List ℕ → Type 0
-AsksServing pool R cs f d = (c : List ℕ) → In c cs → (n : ℕ) → In n c → serves R d n ≡ true → (has d n || asks pool f d n) ≡ true
+AsksServing pool R cs f d = (c : List ℕ) → In c cs → (n : ℕ) → In n c → serves R d n ≡ true →
+    (has d n || asks pool f d n) ≡ true
 
 -- the clause is of the pool, and the package has it whatever is left of the pruned package p
 pub record HasClause (pool : Interned) (rows : List ℕ) (p : ℕ) (e : Entry) : Type 0 where
   pub of_pool : e.clause < length pool.clauses
-  pub has : (left : List ℕ) → In (clause_at pool e.clause) (clauses_of (with_ids pool rows p left []) e.holder)
+  pub has : (left : List ℕ) →
+      In (clause_at pool e.clause) (clauses_of (with_ids pool rows p left []) e.holder)
 
--- all that is filed is so, and none is always asked but packages
+-- each entry is such a clause, and only packages are always asked
 pub record FiledFor (pool : Interned) (rows : List ℕ) (p : ℕ) (f : Filed) : Type 0 where
   pub always : (n : ℕ) → In n f.always → n < length rows
   pub lists : (place : ℕ) (e : Entry) → In e (entries_at f.lists place) → HasClause pool rows p e
 
 -- all clauses of the entries are of the pool
 abbrev pub AreOfPool : Interned → List (List Entry) → Type 0
-AreOfPool pool lists = (place : ℕ) (e : Entry) → In e (entries_at lists place) → e.clause < length pool.clauses
+AreOfPool pool lists = (place : ℕ) (e : Entry) → In e (entries_at lists place) →
+    e.clause < length pool.clauses
 
--- as many lists, which have all that they had, and no others but the entry
+-- the lists keep what they had, and only the entry came
 pub record Gains (entry : Entry) (old new : List (List Entry)) : Type 0 where
   pub size : length new ≡ length old
   pub stays : (place : ℕ) (e : Entry) → In e (entries_at old place) → In e (entries_at new place)
-  pub came : (place : ℕ) (e : Entry) → In e (entries_at new place) → In e (entries_at old place) ⊎ (e ≡ entry)
+  pub came : (place : ℕ) (e : Entry) → In e (entries_at new place) →
+      In e (entries_at old place) ⊎ (e ≡ entry)
 
--- the entry is of the package, which is another one than p, and one of these clauses
+-- the entry is of the package, which is not p, and has one of these clauses
 pub record IsOf (p other : ℕ) (row : List ℕ) (e : Entry) : Type 0 where
   pub holder : e.holder ≡ other
   pub apart : other ≡ p → ⊥
   pub clause : In e.clause row
 
--- as many lists, which have all that they had, and no others but the package, with clauses of the row
+-- the lists keep what they had, and only the package came, with clauses of the row
 pub record Takes (p other : ℕ) (row : List ℕ) (old new : Filed) : Type 0 where
   pub size : length new.lists ≡ length old.lists
   pub always : (n : ℕ) → In n old.always → In n new.always
-  pub lists : (place : ℕ) (e : Entry) → In e (entries_at old.lists place) → In e (entries_at new.lists place)
+  pub lists : (place : ℕ) (e : Entry) → In e (entries_at old.lists place) →
+      In e (entries_at new.lists place)
   pub always_came : (n : ℕ) → In n new.always → In n old.always ⊎ (n ≡ other)
-  pub lists_came : (place : ℕ) (e : Entry) → In e (entries_at new.lists place) → In e (entries_at old.lists place) ⊎ IsOf p other row e
+  pub lists_came : (place : ℕ) (e : Entry) → In e (entries_at new.lists place) →
+      In e (entries_at old.lists place) ⊎ IsOf p other row e

@@ -1,26 +1,32 @@
--- The laws of pruning, of each single step in the repository as it is left at that moment, and of the whole.
+-- The laws of pruning: of each single step in the repository as it is left at that moment, and of
+-- the whole.
 use Rattle.std.specs.Prelude.{◌≡◌, ℕ, true, List, [], length, ◌⊎◌, ◌↔◌}
 use Rattle.row_book.specs.{Sets.{NumSet}, Repository.{Repository, Coinst, Healthy, clauses_of}, Sound.{TidyRepository}}
 use Rattle.row_book.specs.Pruning.{is_dead, with_empty_clause, without_clause, is_forced, is_idle, lift_idle, prune, idle_steps, lift_all}
 use Rattle.listed.specs.Lists.{In}
 
--- with the empty clause alone for a dead package the healthy sets are the same
+-- with only the empty clause for a dead package the healthy sets are the same
 abbrev pub DeadKeeps : Type 0
-DeadKeeps = (R : Repository) (p : ℕ) (I : NumSet) → is_dead R p ≡ true → (Healthy R I ↔ Healthy (with_empty_clause R p) I)
+DeadKeeps = (R : Repository) (p : ℕ) (I : NumSet) → is_dead R p ≡ true →
+    (Healthy R I ↔ Healthy (with_empty_clause R p) I)
 
 -- without a forced clause the healthy sets are the same
 abbrev pub ForcedKeeps : Type 0
-ForcedKeeps = (R : Repository) (p : ℕ) (d : List ℕ) (I : NumSet) → TidyRepository R → is_forced R p d ≡ true →
+ForcedKeeps = (R : Repository) (p : ℕ) (d : List ℕ) (I : NumSet) → TidyRepository R →
+    is_forced R p d ≡ true →
     (Healthy R I ↔ Healthy (without_clause R p d) I)
 
--- a set that is healthy without an idle clause is healthy with it once the member is put in where it is wanted
+-- a set that is healthy without an idle clause is healthy with it once the member is added if it is
+-- wanted
 abbrev pub IdleLifts : Type 0
-IdleLifts = (R : Repository) (p : ℕ) (d : List ℕ) (x : ℕ) (I : NumSet) → TidyRepository R → In d (clauses_of R p) → is_idle R p d x ≡ true →
+IdleLifts = (R : Repository) (p : ℕ) (d : List ℕ) (x : ℕ) (I : NumSet) → TidyRepository R →
+    In d (clauses_of R p) → is_idle R p d x ≡ true →
     Healthy (without_clause R p d) I → Healthy R (lift_idle I p d x)
 
 -- so without an idle clause the same sets are co-installable
 abbrev pub IdleKeeps : Type 0
-IdleKeeps = (R : Repository) (p : ℕ) (d : List ℕ) (x : ℕ) (S : NumSet) → TidyRepository R → In d (clauses_of R p) → is_idle R p d x ≡ true →
+IdleKeeps = (R : Repository) (p : ℕ) (d : List ℕ) (x : ℕ) (S : NumSet) → TidyRepository R →
+    In d (clauses_of R p) → is_idle R p d x ≡ true →
     (Coinst R S ↔ Coinst (without_clause R p d) S)
 
 -- pruning keeps every set
@@ -29,9 +35,11 @@ PruneKeeps = (R : Repository) (S : NumSet) → TidyRepository R → (Coinst R S 
 
 -- a healthy set of the pruned repository, taken back through the idle steps, is healthy
 abbrev pub PruneLifts : Type 0
-PruneLifts = (R : Repository) (I : NumSet) → TidyRepository R → Healthy (prune R) I → Healthy R (lift_all I (idle_steps R))
+PruneLifts = (R : Repository) (I : NumSet) → TidyRepository R → Healthy (prune R) I →
+    Healthy R (lift_all I (idle_steps R))
 
--- the pruned repository is tidy, has the same conflicts, and no clauses but old ones and empty ones
+-- the pruned repository is tidy, has the same conflicts, and has no clauses but old ones and empty
+-- ones
 pub record PrunedFrom (R F : Repository) : Type 0 where
   pub tidy : TidyRepository F
   pub size : length F.clauses ≡ length R.clauses

@@ -14,8 +14,8 @@ use row_book::{Step, StepList};
 use std::alloc::{AllocError, Global};
 
 impl PrunedPackage<'_> {
-    // Drops the clause of the package where it is forced or idle among those that are left; where it is idle and not forced,
-    // the step is put behind the others.
+    // Drops the clause of the package if it is forced or idle among those that are left. If it is
+    // only idle, the step is recorded.
     fn prune_one(
         &self,
         alloc: Global,
@@ -28,15 +28,20 @@ impl PrunedPackage<'_> {
         requires left { OfPool self.now.pool.now left.old }
         requires order { InOrder (clauses_at self.now.pool.now left.old) }
         requires clause { clause < length self.now.pool.now.clauses }
-        requires own { (n : ℕ) → In n (clause_at self.now.pool.now clause) → n < length self.now.rows.now }
+        requires own { (n : ℕ) → In n (clause_at self.now.pool.now clause) →
+            n < length self.now.rows.now }
         requires filed { FiledFor self.now.pool.now self.now.rows.now self.now.number filed.now }
-        requires asks { AsksServing self.now.pool.now (bare_with self.now left.old) (clauses_at self.now.pool.now left.old) filed.now (clause_at self.now.pool.now clause) }
+        requires asks { AsksServing self.now.pool.now (bare_with self.now left.old)
+            (clauses_at self.now.pool.now left.old) filed.now (clause_at self.now.pool.now clause) }
         ensures left { OnOk result (◌≡◌ {A = Repository} (left_with self.now left.new)
-            (prune_clause (left_with self.now left.old) self.now.number (clause_at self.now.pool.now clause)).left) }
+            (prune_clause (left_with self.now left.old) self.now.number
+            (clause_at self.now.pool.now clause)).left) }
         ensures part { OnOk result ((id : ℕ) → In id left.new → In id left.old) }
         ensures order { OnOk result (InOrder (clauses_at self.now.pool.now left.new)) }
-        ensures idle { OnOk result (trail_meaning self.now.pool.now idle.new ≡ trail_meaning self.now.pool.now idle.old
-            ++ map IdleStep (prune_clause (left_with self.now left.old) self.now.number (clause_at self.now.pool.now clause)).steps) }
+        ensures idle { OnOk result (trail_meaning self.now.pool.now idle.new
+            ≡ trail_meaning self.now.pool.now idle.old
+            ++ map IdleStep (prune_clause (left_with self.now left.old) self.now.number
+            (clause_at self.now.pool.now clause)).steps) }
     {
         let forced = self.is_forced(alloc, left.as_slice(), filed, clause)?;
         if forced {
@@ -55,7 +60,8 @@ impl PrunedPackage<'_> {
         Ok(())
     }
 
-    /// The clauses of the package that are left when each is dropped in turn that is forced or idle.
+    /// The clauses of the package that are left when each that is forced or idle is dropped in
+    /// turn.
     pub(crate) fn prune_each(
         &self,
         alloc: Global,
@@ -65,13 +71,17 @@ impl PrunedPackage<'_> {
         requires fits { IsPrunable self.now }
         requires ids { OfPool self.now.pool.now ids.now }
         requires order { InOrder (clauses_at self.now.pool.now ids.now) }
-        requires members { (c : List ℕ) → In c (clauses_at self.now.pool.now ids.now) → (n : ℕ) → In n c → n < length self.now.rows.now }
+        requires members { (c : List ℕ) → In c (clauses_at self.now.pool.now ids.now) →
+            (n : ℕ) → In n c → n < length self.now.rows.now }
         ensures left { IfOk result (λ left. ◌≡◌ {A = Repository} (left_with self.now left)
-            (prune_clauses (left_with self.now ids.now) self.now.number (clauses_at self.now.pool.now ids.now)).left) }
+            (prune_clauses (left_with self.now ids.now) self.now.number
+            (clauses_at self.now.pool.now ids.now)).left) }
         ensures part { IfOk result (λ left. (id : ℕ) → In id left → In id ids.now) }
         ensures order { IfOk result (λ left. InOrder (clauses_at self.now.pool.now left)) }
-        ensures idle { OnOk result (trail_meaning self.now.pool.now idle.new ≡ trail_meaning self.now.pool.now idle.old
-            ++ map IdleStep (prune_clauses (left_with self.now ids.now) self.now.number (clauses_at self.now.pool.now ids.now)).steps) }
+        ensures idle { OnOk result (trail_meaning self.now.pool.now idle.new
+            ≡ trail_meaning self.now.pool.now idle.old
+            ++ map IdleStep (prune_clauses (left_with self.now ids.now) self.now.number
+            (clauses_at self.now.pool.now ids.now)).steps) }
     {
         let filed = Filed::of(alloc, self, ids)?;
         let mut left = Left::all_of(alloc, ids)?;

@@ -1,7 +1,7 @@
 //! Whether a package can never be installed.
 //!
-//! A dead package gets the empty clause, which conflicts as a whole with everything. So thinning drops its conflicts, and all
-//! dead packages become one class.
+//! A dead package gets the empty clause, which conflicts as a whole with everything. So thinning
+//! drops its conflicts, and all dead packages become one class.
 ghost use Rattle.std.specs.{Prelude.{◌≡◌, ◌∷◌, [], IfOk}, List.{list_any}};
 ghost use Rattle.clause_pool.specs.{Interned.{clauses_at, OfPool}, Lists.{InOrder}};
 ghost use Rattle.row_book.specs.Facing.{against_in, all_against, face};
@@ -13,13 +13,15 @@ use row_book::common_conflicts;
 use std::alloc::{AllocError, Global};
 
 impl PrunedPackage<'_> {
-    // Whether the list conflicts as a whole with the package, or with a clause of its row: whether that is within the
-    // packages that conflict with each member of the list.
+    // Whether the list conflicts as a whole with the package, or with a clause of its row. It does
+    // if that lies within the packages that conflict with each member of the list.
     fn faces_side(&self, alloc: Global, list: &[u32], row: &[ClauseId]) -> Result<bool, AllocError>
         requires fits { IsPrunable self.now }
         requires row { OfPool self.now.pool.now row.now }
         requires order { InOrder (clauses_at self.now.pool.now row.now) }
-        ensures { IfOk result (λ faces. faces ≡ list_any (all_against (against_in self.now.table.now) list.now) ((self.now.number ∷ []) ∷ clauses_at self.now.pool.now row.now)) }
+        ensures { IfOk result (λ faces. faces
+            ≡ list_any (all_against (against_in self.now.table.now) list.now)
+            ((self.now.number ∷ []) ∷ clauses_at self.now.pool.now row.now)) }
     {
         match list.split_first() {
             None => Ok(true),
@@ -36,7 +38,9 @@ impl PrunedPackage<'_> {
         requires fits { IsPrunable self.now }
         requires row { OfPool self.now.pool.now row.now }
         requires order { InOrder (clauses_at self.now.pool.now row.now) }
-        ensures { IfOk result (λ faces. faces ≡ face (against_in self.now.table.now) (clauses_at self.now.pool.now row.now) ((self.now.number ∷ []) ∷ clauses_at self.now.pool.now row.now)) }
+        ensures { IfOk result (λ faces. faces
+            ≡ face (against_in self.now.table.now) (clauses_at self.now.pool.now row.now)
+            ((self.now.number ∷ []) ∷ clauses_at self.now.pool.now row.now)) }
     {
         for id in row {
             let faces = self.faces_side(alloc, self.pool.slice(*id), row)?;
@@ -52,7 +56,9 @@ impl PrunedPackage<'_> {
         requires fits { IsPrunable self.now }
         requires row { OfPool self.now.pool.now row.now }
         requires order { InOrder (clauses_at self.now.pool.now row.now) }
-        ensures { IfOk result (λ dead. dead ≡ face (against_in self.now.table.now) ((self.now.number ∷ []) ∷ clauses_at self.now.pool.now row.now) ((self.now.number ∷ []) ∷ clauses_at self.now.pool.now row.now)) }
+        ensures { IfOk result (λ dead. dead ≡ face (against_in self.now.table.now)
+            ((self.now.number ∷ []) ∷ clauses_at self.now.pool.now row.now) ((self.now.number ∷ [])
+            ∷ clauses_at self.now.pool.now row.now)) }
     {
         let faces = self.faces_side(alloc, &[self.number], row)?;
         if faces {

@@ -1,8 +1,9 @@
 //! Which packages see to it that a clause is hit.
 //!
-//! As in tests of one clause against many for inclusion (forward subsumption), each clause of a member is kept under its first
-//! number with the package that has it. A question about a clause then looks at the clauses that begin with one of its
-//! numbers, and at no whole row. Most of those that are looked at lie within it, so that no filter stands before the look.
+//! As in tests of one clause against many for inclusion (forward subsumption), each clause of a
+//! member is kept under its first number with the package that has it. A question about a clause
+//! then looks at the clauses that begin with one of its numbers, and at no whole row. Most of those
+//! lie within it, so a filter before the test would not pay.
 ghost use Rattle.std.specs.{Prelude.{◌≡◌, ◌<◌, ◌≤◌, ◌∷◌, ◌%◌, ◌||◌, [], ℕ, IfOk, List, OnOk, length, slice_index_or}, Bool.{OnFalse}};
 ghost use Rattle.clause_pool.specs.{Interned.{clause_at, clauses_at, OfPool}, Lists.{InOrder}};
 ghost use Rattle.listed.specs.Lists.{has, In, Ascending};
@@ -17,7 +18,7 @@ use row_book::distinct_numbers_in;
 use std::alloc::{AllocError, Global};
 use std::marker::Model;
 
-/// A row with so few clauses that no member is filed, and each is asked about each of them.
+/// For a row of at most this many clauses no member is filed: each is asked about each clause.
 const SHORT: usize = 8;
 
 /// A package and a clause that it has.
@@ -27,9 +28,12 @@ pub(crate) struct Entry {
     clause: ClauseId,
 }
 
-/// The packages that have clauses, with these, by the first numbers of these: a package can only see to it that a clause is
-/// hit if it is a member, or if a clause of its own lies within, which begins with a member. Several numbers share a list.
-/// A package with an empty clause or a long row, and the one that is pruned, which loses clauses, are asked about every clause.
+/// The packages that have clauses, with these clauses, by their first numbers.
+///
+/// A package can only see to it that a clause is hit if it is a member, or if a clause of its own
+/// lies within. Such a clause begins with a member. Several numbers share a list. Three kinds of
+/// packages are asked about every clause: one with an empty clause, one with a long row, and the
+/// pruned one, which loses clauses.
 #[derive(Drop)]
 pub(crate) struct Filed {
     always: Vec<u32>,
@@ -54,10 +58,14 @@ impl Filed {
         requires fits { IsPrunable pruned.now }
         requires ids { OfPool pruned.now.pool.now ids.now }
         requires order { InOrder (clauses_at pruned.now.pool.now ids.now) }
-        requires members { (c : List ℕ) → In c (clauses_at pruned.now.pool.now ids.now) → (n : ℕ) → In n c → n < length pruned.now.rows.now }
-        ensures asks { IfOk result (λ filed. (d : List ℕ) → In d (clauses_at pruned.now.pool.now ids.now) →
-            AsksServing pruned.now.pool.now (bare_with pruned.now ids.now) (clauses_at pruned.now.pool.now ids.now) filed d) }
-        ensures sound { IfOk result (FiledFor pruned.now.pool.now pruned.now.rows.now pruned.now.number) }
+        requires members { (c : List ℕ) → In c (clauses_at pruned.now.pool.now ids.now) →
+            (n : ℕ) → In n c → n < length pruned.now.rows.now }
+        ensures asks { IfOk result (λ filed. (d : List ℕ) →
+            In d (clauses_at pruned.now.pool.now ids.now) →
+            AsksServing pruned.now.pool.now (bare_with pruned.now ids.now)
+            (clauses_at pruned.now.pool.now ids.now) filed d) }
+        ensures sound { IfOk result
+            (FiledFor pruned.now.pool.now pruned.now.rows.now pruned.now.number) }
     {
         let mut always = Vec::new(alloc);
         let mut lists = empty_vectors(alloc, list_count(ids.len()))?;
@@ -73,7 +81,7 @@ impl Filed {
         self.always.as_slice()
     }
 
-    /// Puts the packages that are filed with a clause within the given one behind the others.
+    /// Appends the packages that are filed with a clause within the given one.
     pub(crate) fn push_within(
         &self,
         pool: &Pool,
@@ -82,13 +90,14 @@ impl Filed {
     ) -> Result<(), AllocError>
         requires of_pool { AreOfPool pool.now self.now.lists }
         requires clause { Ascending clause.now }
-        ensures { OnOk result ((n : ℕ) → has found.new.items n ≡ (has found.old.items n || filed_within pool.now self.now.lists clause.now n)) }
+        ensures { OnOk result ((n : ℕ) → has found.new.items n ≡ (has found.old.items n
+            || filed_within pool.now self.now.lists clause.now n)) }
     {
         push_each_within(pool, self.lists.as_slice(), clause, found)
     }
 }
 
-// Files the members of the clauses of the package, where nobody is filed yet.
+// Files the members of the clauses of the package; nobody is filed yet.
 fn file_members(
     alloc: Global,
     pruned: &PrunedPackage,
@@ -99,24 +108,27 @@ fn file_members(
     requires fits { IsPrunable pruned.now }
     requires ids { OfPool pruned.now.pool.now ids.now }
     requires order { InOrder (clauses_at pruned.now.pool.now ids.now) }
-    requires members { (c : List ℕ) → In c (clauses_at pruned.now.pool.now ids.now) → (n : ℕ) → In n c → n < length pruned.now.rows.now }
+    requires members { (c : List ℕ) → In c (clauses_at pruned.now.pool.now ids.now) →
+        (n : ℕ) → In n c → n < length pruned.now.rows.now }
     requires none { always.old.items ≡ [] }
     requires empty { (n : ℕ) → slice_index_or (entries_in lists.old) n [] ≡ [] }
     ensures asks { OnOk result ((d : List ℕ) → In d (clauses_at pruned.now.pool.now ids.now) →
-        AsksServing pruned.now.pool.now (bare_with pruned.now ids.now) (clauses_at pruned.now.pool.now ids.now) (filed_in always.new.items lists.new) d) }
-    ensures sound { OnOk result (FiledFor pruned.now.pool.now pruned.now.rows.now pruned.now.number (filed_in always.new.items lists.new)) }
+        AsksServing pruned.now.pool.now (bare_with pruned.now ids.now)
+        (clauses_at pruned.now.pool.now ids.now) (filed_in always.new.items lists.new) d) }
+    ensures sound { OnOk result (FiledFor pruned.now.pool.now pruned.now.rows.now pruned.now.number
+        (filed_in always.new.items lists.new)) }
 {
     let members = distinct_numbers_in(alloc, pruned.pool, ids)?;
     file_each(pruned, ids, members.as_slice(), always, lists)?;
     Ok(())
 }
 
-// How many lists there are for a row of so many clauses.
+// How many lists there are for a row with this many clauses.
 fn list_count(clauses: usize) -> usize {
     if clauses > SHORT { clauses } else { 0 }
 }
 
-// Files each of the packages for its clauses: of the one that is pruned those that are left.
+// Files each of the packages for its clauses; the pruned one for those that are left.
 fn file_each<'a>(
     pruned: &'a PrunedPackage,
     left: &'a [ClauseId],
@@ -129,10 +141,13 @@ fn file_each<'a>(
     requires order { InOrder (clauses_at pruned.now.pool.now left.now) }
     requires members { (n : ℕ) → In n members.now → n < length pruned.now.rows.now }
     requires ascending { Ascending members.now }
-    ensures filed { OnOk result ((n : ℕ) → In n members.now → (e : List ℕ) → In e (clauses_of (bare_with pruned.now left.now) n) →
+    ensures filed { OnOk result ((n : ℕ) → In n members.now →
+        (e : List ℕ) → In e (clauses_of (bare_with pruned.now left.now) n) →
         IsFiled pruned.now.pool.now members.now (filed_in always.new.items lists.new) e n) }
-    ensures sound { OnOk result (FiledFor pruned.now.pool.now pruned.now.rows.now pruned.now.number (filed_in always.old.items lists.old)
-        → FiledFor pruned.now.pool.now pruned.now.rows.now pruned.now.number (filed_in always.new.items lists.new)) }
+    ensures sound { OnOk result (FiledFor pruned.now.pool.now pruned.now.rows.now pruned.now.number
+        (filed_in always.old.items lists.old)
+        → FiledFor pruned.now.pool.now pruned.now.rows.now pruned.now.number
+        (filed_in always.new.items lists.new)) }
 {
     for member in members {
         let row = pruned.clauses_of(left, *member);
@@ -141,8 +156,9 @@ fn file_each<'a>(
     Ok(())
 }
 
-// Whether a member with a row of so many clauses is asked about every clause: it is the package that is pruned, or its row is
-// longer than there are lists, and going over it would cost more than asking the member each time.
+// Whether a member with this many clauses is asked about every clause: it is the pruned package, or
+// its row is longer than there are lists. To go over such a row costs more than to ask the member
+// each time.
 fn is_always_asked(number: u32, member: u32, clauses: usize, lists: usize) -> bool
     ensures other { OnFalse result (member ≡ number → ⊥) }
     ensures short { OnFalse result (clauses ≤ lists) }
@@ -161,8 +177,10 @@ fn file_row(
 ) -> Result<(), AllocError>
     requires row { OfPool pruned.now.pool.now row.now }
     requires ascending { Ascending members.now }
-    ensures filed { OnOk result ((e : List ℕ) → In e (clauses_at pruned.now.pool.now row.now) → IsFiled pruned.now.pool.now members.now (filed_in always.new.items lists.new) e member) }
-    ensures takes { OnOk result (Takes pruned.now.number member row.now (filed_in always.old.items lists.old) (filed_in always.new.items lists.new)) }
+    ensures filed { OnOk result ((e : List ℕ) → In e (clauses_at pruned.now.pool.now row.now) →
+        IsFiled pruned.now.pool.now members.now (filed_in always.new.items lists.new) e member) }
+    ensures takes { OnOk result (Takes pruned.now.number member row.now
+        (filed_in always.old.items lists.old) (filed_in always.new.items lists.new)) }
 {
     if is_always_asked(pruned.number, member, row.len(), lists.len()) {
         always.push(member)?;
@@ -186,8 +204,10 @@ fn file_clause(
     requires clause { clause < length pool.now.clauses }
     requires some { 0 < length lists.old }
     requires ascending { Ascending members.now }
-    ensures filed { OnOk result (IsFiled pool.now members.now (filed_in always.new.items lists.new) (clause_at pool.now clause) member) }
-    ensures takes { OnOk result ((number : ℕ) → (member ≡ number → ⊥) → Takes number member (clause ∷ []) (filed_in always.old.items lists.old) (filed_in always.new.items lists.new)) }
+    ensures filed { OnOk result (IsFiled pool.now members.now (filed_in always.new.items lists.new)
+        (clause_at pool.now clause) member) }
+    ensures takes { OnOk result ((number : ℕ) → (member ≡ number → ⊥) → Takes number member
+        (clause ∷ []) (filed_in always.old.items lists.old) (filed_in always.new.items lists.new)) }
 {
     match pool.slice(clause).split_first() {
         None => {
@@ -204,7 +224,7 @@ fn file_clause(
     }
 }
 
-// Puts the entry under the number, if that is one of the members.
+// Appends the entry to the list of the number, if that is one of the members.
 fn file_under(
     number: u32,
     members: &[u32],
@@ -213,7 +233,8 @@ fn file_under(
 ) -> Result<(), AllocError>
     requires some { 0 < length lists.old }
     requires ascending { Ascending members.now }
-    ensures filed { OnOk result (In number members.now → In entry (under (entries_in lists.new) number)) }
+    ensures filed { OnOk result (In number members.now →
+        In entry (under (entries_in lists.new) number)) }
     ensures gains { OnOk result (Gains entry (entries_in lists.old) (entries_in lists.new)) }
 {
     if !holds_ascending(members, number) {
@@ -222,7 +243,7 @@ fn file_under(
     push_entry(lists, place_in(number, lists.len()), entry)
 }
 
-// The place of the list that a number has among so many.
+// The place, among `size` lists, of the list of a number.
 fn place_in(number: u32, size: usize) -> usize
     requires { 0 < size }
     ensures is { result ≡ number % size }
@@ -231,7 +252,7 @@ fn place_in(number: u32, size: usize) -> usize
     number as usize % size
 }
 
-// Puts an entry behind the others in a list.
+// Appends an entry to a list.
 fn push_entry(lists: &mut [Vec<Entry>], place: usize, entry: Entry) -> Result<(), AllocError>
     requires { place < length lists.old }
     ensures there { OnOk result (In entry (entries_at (entries_in lists.new) place)) }
@@ -241,7 +262,7 @@ fn push_entry(lists: &mut [Vec<Entry>], place: usize, entry: Entry) -> Result<()
     Ok(())
 }
 
-// Lends the list that a number has, which is empty where there are no lists.
+// Lends the list of a number; it is empty if there are no lists.
 fn list_under(lists: &[Vec<Entry>], number: u32) -> &[Entry]
     ensures { result.now ≡ under (entries_in lists.now) number }
 {
@@ -251,7 +272,7 @@ fn list_under(lists: &[Vec<Entry>], number: u32) -> &[Entry]
     lists[place_in(number, lists.len())].as_slice()
 }
 
-// Puts the packages of those entries whose clauses lie within the given one behind the others.
+// Appends the packages of those entries whose clauses lie within the given one.
 fn push_packages(
     pool: &Pool,
     list: &[Entry],
@@ -260,7 +281,8 @@ fn push_packages(
 ) -> Result<(), AllocError>
     requires of_pool { (e : Entry) → In e list.now → e.clause < length pool.now.clauses }
     requires clause { Ascending clause.now }
-    ensures { OnOk result ((n : ℕ) → has found.new.items n ≡ (has found.old.items n || tell_within pool.now list.now clause.now n)) }
+    ensures { OnOk result ((n : ℕ) → has found.new.items n ≡ (has found.old.items n
+        || tell_within pool.now list.now clause.now n)) }
 {
     for entry in list {
         if is_inside_ascending(pool.slice(entry.clause), clause) {
@@ -270,7 +292,7 @@ fn push_packages(
     Ok(())
 }
 
-// Does so with the lists of all members of the clause.
+// Appends such packages from the lists of all members of the clause.
 fn push_each_within(
     pool: &Pool,
     lists: &[Vec<Entry>],
@@ -279,7 +301,8 @@ fn push_each_within(
 ) -> Result<(), AllocError>
     requires of_pool { AreOfPool pool.now (entries_in lists.now) }
     requires clause { Ascending clause.now }
-    ensures { OnOk result ((n : ℕ) → has found.new.items n ≡ (has found.old.items n || filed_within pool.now (entries_in lists.now) clause.now n)) }
+    ensures { OnOk result ((n : ℕ) → has found.new.items n ≡ (has found.old.items n
+        || filed_within pool.now (entries_in lists.now) clause.now n)) }
 {
     for number in clause {
         push_packages(pool, list_under(lists, *number), clause, found)?;

@@ -11,13 +11,14 @@ use clause_pool::{ClauseId, has_side_within, has_within};
 use std::alloc::{AllocError, Global};
 
 impl PrunedPackage<'_> {
-    /// The clauses of a package: of the one that is pruned those that are left.
+    /// The clauses of a package; of the pruned one those that are left.
     pub(crate) fn clauses_of<'a>(&'a self, left: &'a [ClauseId], other: u32) -> &'a [ClauseId]
         requires fits { IsPrunable self.now }
         requires other { other < length self.now.rows.now }
         requires left { OfPool self.now.pool.now left.now }
         requires order { InOrder (clauses_at self.now.pool.now left.now) }
-        ensures is { clauses_at self.now.pool.now result.now ≡ clauses_of (bare_with self.now left.now) other }
+        ensures is { clauses_at self.now.pool.now result.now
+            ≡ clauses_of (bare_with self.now left.now) other }
         ensures of_pool { OfPool self.now.pool.now result.now }
         ensures order { InOrder (clauses_at self.now.pool.now result.now) }
     {
@@ -41,7 +42,8 @@ impl PrunedPackage<'_> {
         has_side_within(self.pool, other, row, clause)
     }
 
-    // The members of the clause, and those of the packages asked about it that see to it that it is hit.
+    // The members of the clause, and those of the packages asked about it that see to it that it is
+    // hit.
     fn asked_serving(
         &self,
         alloc: Global,
@@ -54,7 +56,8 @@ impl PrunedPackage<'_> {
         requires left { OfPool self.now.pool.now left.now }
         requires order { InOrder (clauses_at self.now.pool.now left.now) }
         requires clause { Ascending clause.now }
-        ensures { IfOk result (λ serving. serving.items ≡ clause.now ++ filter (serves (bare_with self.now left.now) clause.now) asked.now) }
+        ensures { IfOk result (λ serving. serving.items
+            ≡ clause.now ++ filter (serves (bare_with self.now left.now) clause.now) asked.now) }
     {
         let mut serving = Vec::from_slice(alloc, clause)?;
         for other in asked {
@@ -65,7 +68,8 @@ impl PrunedPackage<'_> {
         Ok(serving)
     }
 
-    // These, and the packages that are filed with a clause within the clause, in order.
+    // The members of the clause, the packages asked about it that see to it that it is hit, and
+    // those filed with a clause within it; in order.
     fn serving(
         &self,
         alloc: Global,
@@ -78,7 +82,8 @@ impl PrunedPackage<'_> {
         requires left { OfPool self.now.pool.now left.now }
         requires order { InOrder (clauses_at self.now.pool.now left.now) }
         requires clause { Ascending clause.now }
-        ensures { IfOk result (λ serving. IsListOf (λ n. has (clause.now ++ filter (serves (bare_with self.now left.now) clause.now) filed.now.always) n
+        ensures { IfOk result (λ serving. IsListOf (λ n. has (clause.now
+            ++ filter (serves (bare_with self.now left.now) clause.now) filed.now.always) n
             || filed_within self.now.pool.now filed.now.lists clause.now n) serving.items) }
     {
         let mut serving = self.asked_serving(alloc, left, filed.always(), clause)?;
@@ -88,8 +93,9 @@ impl PrunedPackage<'_> {
         Ok(serving)
     }
 
-    /// Whether the clause is forced among the clauses that are left, where each member of these is filed for its clauses: it
-    /// is where another one lies within the packages that see to it that the clause is hit.
+    /// Whether the clause is forced among the clauses that are left: another one lies within the
+    /// packages that see to it that the clause is hit. Each member of the clauses that are left is
+    /// filed for its clauses.
     pub(crate) fn is_forced(
         &self,
         alloc: Global,
@@ -101,9 +107,11 @@ impl PrunedPackage<'_> {
         requires left { OfPool self.now.pool.now left.now }
         requires order { InOrder (clauses_at self.now.pool.now left.now) }
         requires filed { FiledFor self.now.pool.now self.now.rows.now self.now.number filed.now }
-        requires asks { AsksServing self.now.pool.now (bare_with self.now left.now) (clauses_at self.now.pool.now left.now) filed.now (clause_at self.now.pool.now clause) }
+        requires asks { AsksServing self.now.pool.now (bare_with self.now left.now)
+            (clauses_at self.now.pool.now left.now) filed.now (clause_at self.now.pool.now clause) }
         requires clause { clause < length self.now.pool.now.clauses }
-        ensures { IfOk result (λ forced. forced ≡ is_forced (bare_with self.now left.now) self.now.number (clause_at self.now.pool.now clause)) }
+        ensures { IfOk result (λ forced. forced ≡ is_forced
+            (bare_with self.now left.now) self.now.number (clause_at self.now.pool.now clause)) }
     {
         let numbers = self.pool.slice(clause);
         let found = self.serving(alloc, left, filed, numbers)?;

@@ -8,7 +8,7 @@ pub(crate) struct PrunedPackage<'a> {
     pub(crate) pool: &'a Pool,
     /// The rows of all packages.
     pub(crate) rows: &'a [RowId],
-    /// For each package those that conflict with it.
+    /// For each package the packages that conflict with it.
     pub(crate) table: &'a [NumList],
     /// The number of the package.
     pub(crate) number: u32,

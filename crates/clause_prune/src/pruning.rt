@@ -21,7 +21,7 @@ pub struct Pruned {
     pub idle: StepList,
 }
 
-// The row of the empty clause alone.
+// The row with only the empty clause.
 fn empty_row(pool: &mut Pool) -> Result<RowId, AllocError>
     ensures row { IfOk result (λ id. row_at pool.new id ≡ [] ∷ []) }
     ensures of_pool { IfOk result (λ id. id < length pool.new.rows) }
@@ -31,7 +31,7 @@ fn empty_row(pool: &mut Pool) -> Result<RowId, AllocError>
     pool.intern_row(&[empty])
 }
 
-// The row of the package when it is pruned among the rows.
+// The row of the package after pruning, among the rows of the others.
 fn pruned_row(
     alloc: Global,
     pool: &mut Pool,
@@ -44,9 +44,12 @@ fn pruned_row(
     requires conflicts { (p n : ℕ) → In n (listed_for table.now p) → n < length rows.now }
     requires table { (p : ℕ) → Ascending (listed_for table.now p) }
     requires inside { number < length rows.now }
-    ensures row { IfOk result (λ id. ◌≡◌ {A = Repository} (prune_package (repository_in pool.old rows.now table.now) number).left (with_clauses (repository_in pool.old rows.now table.now) number (row_at pool.new id))) }
+    ensures row { IfOk result (λ id.
+        ◌≡◌ {A = Repository} (prune_package (repository_in pool.old rows.now table.now) number).left
+        (with_clauses (repository_in pool.old rows.now table.now) number (row_at pool.new id))) }
     ensures of_pool { IfOk result (λ id. id < length pool.new.rows) }
-    ensures idle { OnOk result (trail_meaning pool.old idle.new ≡ trail_meaning pool.old idle.old ++ map IdleStep (prune_package (repository_in pool.old rows.now table.now) number).steps) }
+    ensures idle { OnOk result (trail_meaning pool.old idle.new ≡ trail_meaning pool.old idle.old
+        ++ map IdleStep (prune_package (repository_in pool.old rows.now table.now) number).steps) }
     ensures kept { Kept pool.old pool.new }
 {
     let ids = Vec::from_slice(alloc, pool.row(rows[number as usize]))?;
@@ -64,7 +67,7 @@ fn pruned_row(
     pool.intern_row(left.as_slice())
 }
 
-// Prunes one package after another among the rows.
+// Prunes the rows of one package after another.
 fn prune_rows(
     alloc: Global,
     pool: &mut Pool,
@@ -77,9 +80,11 @@ fn prune_rows(
     requires tidy { TidyRepository (repository_in pool.old rows.old table.now) }
     requires of_pool { (id : ℕ) → In id rows.old → id < length pool.old.rows }
     requires none { trail_meaning pool.old idle.old ≡ [] }
-    ensures rows { OnOk result (◌≡◌ {A = Repository} (repository_in pool.new rows.new table.now) (prune (repository_in pool.old rows.old table.now))) }
+    ensures rows { OnOk result (◌≡◌ {A = Repository} (repository_in pool.new rows.new table.now)
+        (prune (repository_in pool.old rows.old table.now))) }
     ensures of_pool { OnOk result ((id : ℕ) → In id rows.new → id < length pool.new.rows) }
-    ensures idle { OnOk result (trail_meaning pool.new idle.new ≡ map IdleStep (idle_steps (repository_in pool.old rows.old table.now))) }
+    ensures idle { OnOk result (trail_meaning pool.new idle.new
+        ≡ map IdleStep (idle_steps (repository_in pool.old rows.old table.now))) }
     ensures kept { Kept pool.old pool.new }
 {
     for number in 0..rows.len() {
@@ -89,14 +94,17 @@ fn prune_rows(
     Ok(())
 }
 
-/// The pruned book: a dead package gets the empty clause alone, and of the others each clause is dropped in turn that is
-/// forced or idle in what is left. What the pool held stays; it fails only where no memory is found.
+/// The pruned book. A dead package gets only the empty clause. Of the others each clause is dropped
+/// in turn that is forced or idle among those that are left. What the pool held stays.
 pub fn prune(alloc: Global, pool: &mut Pool, book: &Book) -> Result<Pruned, AllocError>
     requires sound { Sound pool.old book.now }
     requires tidy { RowsTidy pool.old book.now.rows }
-    ensures pruned { IfOk result (λ made. repository_of pool.new made.book ≡ prune (repository_of pool.old book.now)) }
-    ensures idle { IfOk result (λ made. trail_meaning pool.new made.idle ≡ map IdleStep (idle_steps (repository_of pool.old book.now))) }
-    ensures keeps { IfOk result (λ made. KeepsSets (repository_of pool.old book.now) (repository_of pool.new made.book)) }
+    ensures pruned { IfOk result (λ made. repository_of pool.new made.book
+        ≡ prune (repository_of pool.old book.now)) }
+    ensures idle { IfOk result (λ made. trail_meaning pool.new made.idle
+        ≡ map IdleStep (idle_steps (repository_of pool.old book.now))) }
+    ensures keeps { IfOk result (λ made.
+        KeepsSets (repository_of pool.old book.now) (repository_of pool.new made.book)) }
     ensures sound { IfOk result (λ made. Sound pool.new made.book) }
     ensures kept { Kept pool.old pool.new }
 {

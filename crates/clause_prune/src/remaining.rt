@@ -6,8 +6,9 @@ use clause_pool::ClauseId;
 use std::alloc::{AllocError, Global};
 use std::marker::Model;
 
-/// The clauses that are left, behind those that are gone. A clause that is dropped moves up those before it, which were
-/// looked at and kept, and not the many that are still to be looked at.
+/// The clauses that are left, after those that are gone. A clause that is dropped shifts those
+/// before it, which were looked at and kept. It does not shift the many that are still to be looked
+/// at.
 #[derive(Drop)]
 pub(crate) struct Left {
     ids: Vec<ClauseId>,
@@ -25,7 +26,7 @@ impl Model for Left {
 }
 
 impl Left {
-    /// Begins with all of the clauses.
+    /// All of the clauses.
     pub(crate) fn all_of(alloc: Global, ids: &[ClauseId]) -> Result<Left, AllocError>
         ensures { IfOk result (λ left. left ≡ ids.now) }
     {
@@ -40,9 +41,10 @@ impl Left {
         &self.ids[self.gone..]
     }
 
-    /// Takes the clause out of those that are left, each of which stands there once.
+    /// Removes the clause from those that are left; each of them is there once.
     pub(crate) fn drop_id(&mut self, clause: ClauseId)
-        requires { (i j : ℕ) → i < j → j < length self.old → slice_index_or self.old i 0 ≡ slice_index_or self.old j 0 → ⊥ }
+        requires { (i j : ℕ) → i < j → j < length self.old →
+            slice_index_or self.old i 0 ≡ slice_index_or self.old j 0 → ⊥ }
         ensures { self.new ≡ ids_without self.old clause }
     {
         let gone = self.gone;
@@ -53,7 +55,7 @@ impl Left {
     }
 }
 
-// The place of the clause among those that are left, or how many they are.
+// The place of the clause among those that are left, or their number if it is not there.
 fn place_of(left: &[ClauseId], clause: ClauseId) -> usize
     ensures within { result ≤ length left.now }
     ensures before { (k : ℕ) → k < result → slice_index_or left.now k 0 ≡ clause → ⊥ }
@@ -67,11 +69,14 @@ fn place_of(left: &[ClauseId], clause: ClauseId) -> usize
     left.len()
 }
 
-// Moves those that stand before the clause up by one place, where it is there behind those that are gone.
+// If the clause is still in the list, removes it by shifting those before it. Returns whether it
+// was.
 fn moves_up(ids: &mut [ClauseId], gone: usize, clause: ClauseId) -> bool
     requires within { gone ≤ length ids.old }
-    requires once { (i j : ℕ) → i < j → j < length (drop gone ids.old) → slice_index_or (drop gone ids.old) i 0 ≡ slice_index_or (drop gone ids.old) j 0 → ⊥ }
-    ensures left { drop (cond result (gone + 1) gone) ids.new ≡ ids_without (drop gone ids.old) clause }
+    requires once { (i j : ℕ) → i < j → j < length (drop gone ids.old) →
+        slice_index_or (drop gone ids.old) i 0 ≡ slice_index_or (drop gone ids.old) j 0 → ⊥ }
+    ensures left { drop (cond result (gone + 1) gone) ids.new
+        ≡ ids_without (drop gone ids.old) clause }
     ensures within { cond result (gone + 1) gone ≤ length ids.new }
 {
     let place = place_of(&ids[gone..], clause);

@@ -1,5 +1,5 @@
 -- for the bodies of this crate alone
--- The commands as `clap` is told of them.
+-- The commands in the form that `clap` takes.
 use Rattle.std.specs.Prelude.{◌≡◌, true, false, List, [], ◌∷◌, ◌++◌, map, Some, codes}
 use Rattle.clap.specs.{Walk.{Rule}, Simple.{Shape, App, new_rule, new_shape, shape_of}, declared.builder.command.Command.{Command}}
 use Rattle.clap.specs.declared.builder.command.Command.TheViews.{out-Command as fields_of}
@@ -21,7 +21,8 @@ rules_of_usage u = map flag_rule u.flags ++ (map valued_rule u.valued ++ words_r
 abbrev pub shape_of_usage : Usage → Shape
 shape_of_usage u = record (new_shape u.name) { rules = rules_of_usage u }
 
--- the program with these commands; it takes no first word for its own name, and the help and version forms are off
+-- the program with these commands; it takes no first word for its own name, and the help and
+-- version forms are off
 abbrev pub bare_app : List Usage → App
 bare_app usages = record {
   top = record (new_shape (codes "coinst")) {
@@ -35,8 +36,11 @@ bare_app usages = record {
 }
 
 abbrev pub app_of_usages : List Usage → App
-app_of_usages usages = record (bare_app usages) { top = record (bare_app usages).top { is_leaf = false } }
+app_of_usages usages =
+    record (bare_app usages) { top = record (bare_app usages).top { is_leaf = false } }
 
 -- the command has this name and these options, and takes other words
 abbrev pub IsCommand : Text → List Text → List Text → Command → Type 0
-IsCommand name flags valued c = (shape_of c ≡ shape_of_usage (record { name = name; flags = flags; valued = valued })) × ((fields_of c).has_globals ≡ false)
+IsCommand name flags valued c =
+    (shape_of c ≡ shape_of_usage (record { name = name; flags = flags; valued = valued }))
+    × ((fields_of c).has_globals ≡ false)

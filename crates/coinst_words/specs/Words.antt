@@ -15,11 +15,12 @@ is_number word = nat_le 1 (length word) && (nat_le (length word) 20 && list_all 
 abbrev pub is_within : ℕ → ℕ → ℕ → Bool
 is_within least most n = nat_le least n && nat_le n most
 
--- the number that a word gives, where it lies in a range
+-- the number that a word gives, if it lies in a range
 abbrev pub number_in : ℕ → ℕ → Text → Option ℕ
-number_in least most word = if is_number word && is_within least most (digits_value 10 word) then Some (digits_value 10 word) else None
+number_in least most word = if is_number word && is_within least most (digits_value 10 word)
+    then Some (digits_value 10 word) else None
 
--- the number of an option, or the default where the option was not given
+-- the number of an option, or the default if the option was not given
 abbrev pub number_or : ℕ → ℕ → ℕ → Option Text → Option ℕ
 number_or least most default None = Some default
 number_or least most default (Some word) = number_in least most word
@@ -37,12 +38,13 @@ seed_of = number_in 0 18446744073709551615
 abbrev pub count_of : Text → Option ℕ
 count_of = number_in 1 most_packages
 
--- the goals that words name, where each names one
+-- the goals that words name, if each names one
 unfoldable pub goals_of : List Text → Option (List Goal)
 goals_of [] = Some []
-goals_of (word ∷ words) = option_and_then (λ goal. option_map (λ goals. goal ∷ goals) (goals_of words)) (goal_of word)
+goals_of (word ∷ words) =
+    option_and_then (λ goal. option_map (λ goals. goal ∷ goals) (goals_of words)) (goal_of word)
 
--- at least one
+-- goals, at least one
 abbrev pub some_goals_of : List Text → Option (List Goal)
 some_goals_of [] = None
 some_goals_of (word ∷ words) = goals_of (word ∷ words)
@@ -54,13 +56,15 @@ is_on (Some word) = bytes_eq word (codes "true")
 
 -- two paths
 abbrev pub two_paths : List Text → Option (Text × Text)
-two_paths (first ∷ second ∷ []) = if is_path first && is_path second then Some (first, second) else None
+two_paths (first ∷ second ∷ []) =
+    if is_path first && is_path second then Some (first, second) else None
 two_paths _ = None
 
--- the path of an index, and goals behind it
+-- the path of an index, and goals after it
 abbrev pub index_and_goals : List Text → Option (Text × List Goal)
 index_and_goals [] = None
-index_and_goals (index ∷ words) = if is_path index then option_map (λ goals. (index, goals)) (some_goals_of words) else None
+index_and_goals (index ∷ words) =
+    if is_path index then option_map (λ goals. (index, goals)) (some_goals_of words) else None
 
 -- the limits that the numbers of a job keep
 abbrev pub IsBetween : ℕ → ℕ → ℕ → Type 0

@@ -11,7 +11,8 @@ use std::alloc::Global;
 /// The goals that words name, at least one.
 pub(crate) fn goals_in(alloc: Global, words: &[&str]) -> Result<GoalList, WordError>
     ensures goals { IfOk result (λ goals. some_goals_of (map (λ s. s.now) words.now) ≡ Some goals) }
-    ensures refusal { IfErr result (OnNotACommand (some_goals_of (map (λ s. s.now) words.now) ≡ None)) }
+    ensures refusal { IfErr result (OnNotACommand (some_goals_of (map (λ s. s.now) words.now)
+        ≡ None)) }
 {
     if words.is_empty() {
         return Err(WordError::NotACommand);

@@ -13,7 +13,8 @@ pub enum Job {
         json: bool,
         /// The most clauses that a row may have, from 1 to 1,000,000.
         clause_limit: u32,
-        /// Whether a package stays in the kernel where its elimination would make a row pass the clause limit.
+        /// Whether a package stays in the kernel if its elimination would make a row pass the
+        /// clause limit.
         hold: bool,
     },
     /// Say whether one package for each goal can be installed together.
@@ -26,10 +27,11 @@ pub enum Job {
         budget: u64,
         /// The most clauses that a row may have, from 1 to 1,000,000.
         clause_limit: u32,
-        /// Whether a package stays in the kernel where its elimination would make a row pass the clause limit.
+        /// Whether a package stays in the kernel if its elimination would make a row pass the
+        /// clause limit.
         hold: bool,
     },
-    /// Say the same on a stored kernel.
+    /// Say on a stored kernel whether one package for each goal can be installed together.
     StoredQuery {
         /// The path of the kernel.
         kernel: PathText,
@@ -48,7 +50,8 @@ pub enum Job {
         budget: u64,
         /// The most clauses that a row may have, from 1 to 1,000,000.
         clause_limit: u32,
-        /// Whether a package stays in the kernel where its elimination would make a row pass the clause limit.
+        /// Whether a package stays in the kernel if its elimination would make a row pass the
+        /// clause limit.
         hold: bool,
     },
     /// Find the goals and the conflicts for which no installation has a package for each goal.
@@ -61,7 +64,8 @@ pub enum Job {
         budget: u64,
         /// The most clauses that a row may have, from 1 to 1,000,000.
         clause_limit: u32,
-        /// Whether a package stays in the kernel where its elimination would make a row pass the clause limit.
+        /// Whether a package stays in the kernel if its elimination would make a row pass the
+        /// clause limit.
         hold: bool,
     },
     /// Compare an installed system with an index.
@@ -74,10 +78,11 @@ pub enum Job {
         budget: u64,
         /// The most clauses that a row may have, from 1 to 1,000,000.
         clause_limit: u32,
-        /// Whether a package stays in the kernel where its elimination would make a row pass the clause limit.
+        /// Whether a package stays in the kernel if its elimination would make a row pass the
+        /// clause limit.
         hold: bool,
     },
-    /// Say which names of a newer index an older one can take over with nothing broken.
+    /// Say which names an older index can take over from a newer one with nothing broken.
     Migrate {
         /// The path of the older index.
         old: PathText,
@@ -87,7 +92,8 @@ pub enum Job {
         budget: u64,
         /// The most clauses that a row may have, from 1 to 1,000,000.
         clause_limit: u32,
-        /// Whether a package stays in the kernel where its elimination would make a row pass the clause limit.
+        /// Whether a package stays in the kernel if its elimination would make a row pass the
+        /// clause limit.
         hold: bool,
     },
     /// Extract the kernel of a suite made from a number, and print its measures.
@@ -99,18 +105,19 @@ pub enum Job {
     },
 }
 
-/// What a job keeps to.
+/// How far a job may go.
 #[derive(Clone, Copy, Debug, PartialEq, Eq)]
 pub struct Settings {
     /// The most failed leaves of each search, from 1 to 1,000,000.
     pub budget: u64,
     /// The most clauses that a row may have, from 1 to 1,000,000.
     pub clause_limit: u32,
-    /// Whether a package stays in the kernel where its elimination would make a row pass the clause limit.
+    /// Whether a package stays in the kernel if its elimination would make a row pass the clause
+    /// limit.
     pub hold: bool,
 }
 
-// What a job keeps to that names none of these.
+// The settings of a job that has none of its own.
 const DEFAULTS: Settings = Settings {
     budget: 10_000,
     clause_limit: 65_536,
@@ -121,7 +128,7 @@ impl Job {
     ghost use Rattle.std.specs.Prelude.{◌≡◌};
     ghost use Rattle.coinst_words.specs.Jobs.{AreInLimits, IsInLimits, settings_of};
 
-    /// How far the job may go, each number and the flag the default where the job has none of its own.
+    /// The settings of the job; the default for each that it does not have.
     pub fn settings(&self) -> Settings
         ensures is { result ≡ settings_of self.now }
         ensures within { IsInLimits self.now → AreInLimits result }

@@ -13,7 +13,8 @@ use clap::ArgMatches;
 use repo_model::GoalList;
 use std::alloc::Global;
 
-/// The commands: the name of each, its options without a value, and those with one. Other words are taken too.
+/// The commands: the name of each, its options without a value, and those with one. Each takes
+/// other words too.
 pub(crate) const USAGES: [(&str, &[&str], &[&str]); 7] = [
     ("kernel", &["json", "hold"], &["clause-limit"]),
     ("query", &["hold"], &["budget", "clause-limit", "kernel"]),
@@ -24,7 +25,8 @@ pub(crate) const USAGES: [(&str, &[&str], &[&str]); 7] = [
     ("sample", &[], &[]),
 ];
 
-// What the options say, before their numbers are read; one that the command does not take was not given.
+// What the options say, before their numbers are read. An option that the command does not take was
+// not given.
 #[derive(Clone, Copy)]
 struct Options<'a> {
     kernel: Option<&'a str>,
@@ -48,9 +50,10 @@ impl<'a> Options<'a> {
         }
     }
 
-    // What a job keeps to by its options.
+    // The settings of a job by its options.
     fn settings(&self) -> Result<Settings, WordError>
-        ensures settings { IfOk result (λ settings. settings_by (options_of self.now) ≡ Some settings) }
+        ensures settings { IfOk result (λ settings.
+            settings_by (options_of self.now) ≡ Some settings) }
         ensures refusal { IfErr result (OnNotACommand (settings_by (options_of self.now) ≡ None)) }
         ensures limited { IfOk result AreInLimits }
     {
@@ -62,7 +65,7 @@ impl<'a> Options<'a> {
     }
 }
 
-// Whether a flag was given, by the value that stands for it.
+// Whether a flag was given, by its value.
 fn is_on(value: Option<&str>) -> bool
     ensures { result ≡ is_on (option_map (λ s. s.now) value.entry) }
 {
@@ -79,7 +82,7 @@ fn is_path(word: &str) -> bool
     word != "" && word != "-"
 }
 
-// A copy of the word, where it may be a path.
+// A copy of the word, if it may be a path.
 fn path_in(alloc: Global, word: &str) -> Result<PathText, WordError>
     ensures path { IfOk result (λ path. (is_path word.now ≡ true) × (path ≡ word.now)) }
     ensures refusal { IfErr result (OnNotACommand (is_path word.now ≡ false)) }
@@ -90,7 +93,7 @@ fn path_in(alloc: Global, word: &str) -> Result<PathText, WordError>
     Ok(PathText::copy(alloc, word)?)
 }
 
-// The paths that two words are.
+// The paths given by two words.
 fn two_paths(alloc: Global, words: &[&str]) -> Result<(PathText, PathText), WordError>
     ensures paths { IfOk result (λ paths. two_paths (map (λ s. s.now) words.now) ≡ Some paths) }
     ensures refusal { IfErr result (OnNotACommand (two_paths (map (λ s. s.now) words.now) ≡ None)) }
@@ -101,10 +104,11 @@ fn two_paths(alloc: Global, words: &[&str]) -> Result<(PathText, PathText), Word
     Ok((path_in(alloc, first)?, path_in(alloc, second)?))
 }
 
-// The path that the first word is, and the goals that the others name.
+// The path given by the first word, and the goals that the others name.
 fn index_and_goals(alloc: Global, words: &[&str]) -> Result<(PathText, GoalList), WordError>
     ensures both { IfOk result (λ both. index_and_goals (map (λ s. s.now) words.now) ≡ Some both) }
-    ensures refusal { IfErr result (OnNotACommand (index_and_goals (map (λ s. s.now) words.now) ≡ None)) }
+    ensures refusal { IfErr result (OnNotACommand (index_and_goals (map (λ s. s.now) words.now)
+        ≡ None)) }
 {
     let [index, goals @ ..] = words else {
         return Err(WordError::NotACommand);
@@ -114,8 +118,10 @@ fn index_and_goals(alloc: Global, words: &[&str]) -> Result<(PathText, GoalList)
 
 // The job of `kernel`.
 fn kernel_job(alloc: Global, options: &Options<'_>, words: &[&str]) -> Result<Job, WordError>
-    ensures job { IfOk result (λ job. kernel_job (options_of options.now) (map (λ s. s.now) words.now) ≡ Some job) }
-    ensures refusal { IfErr result (OnNotACommand (kernel_job (options_of options.now) (map (λ s. s.now) words.now) ≡ None)) }
+    ensures job { IfOk result (λ job.
+        kernel_job (options_of options.now) (map (λ s. s.now) words.now) ≡ Some job) }
+    ensures refusal { IfErr result
+        (OnNotACommand (kernel_job (options_of options.now) (map (λ s. s.now) words.now) ≡ None)) }
     ensures limited { IfOk result IsInLimits }
 {
     let [index] = words else {
@@ -133,8 +139,10 @@ fn kernel_job(alloc: Global, options: &Options<'_>, words: &[&str]) -> Result<Jo
 
 // The job of `compare`.
 fn compare_job(alloc: Global, options: &Options<'_>, words: &[&str]) -> Result<Job, WordError>
-    ensures job { IfOk result (λ job. compare_job (options_of options.now) (map (λ s. s.now) words.now) ≡ Some job) }
-    ensures refusal { IfErr result (OnNotACommand (compare_job (options_of options.now) (map (λ s. s.now) words.now) ≡ None)) }
+    ensures job { IfOk result (λ job.
+        compare_job (options_of options.now) (map (λ s. s.now) words.now) ≡ Some job) }
+    ensures refusal { IfErr result
+        (OnNotACommand (compare_job (options_of options.now) (map (λ s. s.now) words.now) ≡ None)) }
     ensures limited { IfOk result IsInLimits }
 {
     let (old, new) = two_paths(alloc, words)?;
@@ -150,8 +158,10 @@ fn compare_job(alloc: Global, options: &Options<'_>, words: &[&str]) -> Result<J
 
 // The job of `explain`.
 fn explain_job(alloc: Global, options: &Options<'_>, words: &[&str]) -> Result<Job, WordError>
-    ensures job { IfOk result (λ job. explain_job (options_of options.now) (map (λ s. s.now) words.now) ≡ Some job) }
-    ensures refusal { IfErr result (OnNotACommand (explain_job (options_of options.now) (map (λ s. s.now) words.now) ≡ None)) }
+    ensures job { IfOk result (λ job.
+        explain_job (options_of options.now) (map (λ s. s.now) words.now) ≡ Some job) }
+    ensures refusal { IfErr result
+        (OnNotACommand (explain_job (options_of options.now) (map (λ s. s.now) words.now) ≡ None)) }
     ensures limited { IfOk result IsInLimits }
 {
     let (index, goals) = index_and_goals(alloc, words)?;
@@ -167,8 +177,10 @@ fn explain_job(alloc: Global, options: &Options<'_>, words: &[&str]) -> Result<J
 
 // The job of `status`.
 fn status_job(alloc: Global, options: &Options<'_>, words: &[&str]) -> Result<Job, WordError>
-    ensures job { IfOk result (λ job. status_job (options_of options.now) (map (λ s. s.now) words.now) ≡ Some job) }
-    ensures refusal { IfErr result (OnNotACommand (status_job (options_of options.now) (map (λ s. s.now) words.now) ≡ None)) }
+    ensures job { IfOk result (λ job.
+        status_job (options_of options.now) (map (λ s. s.now) words.now) ≡ Some job) }
+    ensures refusal { IfErr result
+        (OnNotACommand (status_job (options_of options.now) (map (λ s. s.now) words.now) ≡ None)) }
     ensures limited { IfOk result IsInLimits }
 {
     let (file, index) = two_paths(alloc, words)?;
@@ -184,8 +196,10 @@ fn status_job(alloc: Global, options: &Options<'_>, words: &[&str]) -> Result<Jo
 
 // The job of `migrate`.
 fn migrate_job(alloc: Global, options: &Options<'_>, words: &[&str]) -> Result<Job, WordError>
-    ensures job { IfOk result (λ job. migrate_job (options_of options.now) (map (λ s. s.now) words.now) ≡ Some job) }
-    ensures refusal { IfErr result (OnNotACommand (migrate_job (options_of options.now) (map (λ s. s.now) words.now) ≡ None)) }
+    ensures job { IfOk result (λ job.
+        migrate_job (options_of options.now) (map (λ s. s.now) words.now) ≡ Some job) }
+    ensures refusal { IfErr result
+        (OnNotACommand (migrate_job (options_of options.now) (map (λ s. s.now) words.now) ≡ None)) }
     ensures limited { IfOk result IsInLimits }
 {
     let (old, new) = two_paths(alloc, words)?;
@@ -202,7 +216,8 @@ fn migrate_job(alloc: Global, options: &Options<'_>, words: &[&str]) -> Result<J
 // The job of `sample`.
 fn sample_job(words: &[&str]) -> Result<Job, WordError>
     ensures job { IfOk result (λ job. sample_job (map (λ s. s.now) words.now) ≡ Some job) }
-    ensures refusal { IfErr result (OnNotACommand (sample_job (map (λ s. s.now) words.now) ≡ None)) }
+    ensures refusal { IfErr result (OnNotACommand (sample_job (map (λ s. s.now) words.now)
+        ≡ None)) }
     ensures limited { IfOk result IsInLimits }
 {
     let [seed, count] = words else {
@@ -213,10 +228,13 @@ fn sample_job(words: &[&str]) -> Result<Job, WordError>
     Ok(Job::Sample { seed, count })
 }
 
-// The job of `query`: on a stored kernel where one is named, else on the index that the first word names.
+// The job of `query`: on a stored kernel if one is named, else on the index that the first word
+// names.
 fn query_job(alloc: Global, options: &Options<'_>, words: &[&str]) -> Result<Job, WordError>
-    ensures job { IfOk result (λ job. query_job (options_of options.now) (map (λ s. s.now) words.now) ≡ Some job) }
-    ensures refusal { IfErr result (OnNotACommand (query_job (options_of options.now) (map (λ s. s.now) words.now) ≡ None)) }
+    ensures job { IfOk result (λ job.
+        query_job (options_of options.now) (map (λ s. s.now) words.now) ≡ Some job) }
+    ensures refusal { IfErr result
+        (OnNotACommand (query_job (options_of options.now) (map (λ s. s.now) words.now) ≡ None)) }
     ensures limited { IfOk result IsInLimits }
 {
     match options.kernel {
@@ -227,8 +245,10 @@ fn query_job(alloc: Global, options: &Options<'_>, words: &[&str]) -> Result<Job
 
 // A query on an index.
 fn index_query(alloc: Global, options: &Options<'_>, words: &[&str]) -> Result<Job, WordError>
-    ensures job { IfOk result (λ job. index_query (options_of options.now) (map (λ s. s.now) words.now) ≡ Some job) }
-    ensures refusal { IfErr result (OnNotACommand (index_query (options_of options.now) (map (λ s. s.now) words.now) ≡ None)) }
+    ensures job { IfOk result (λ job.
+        index_query (options_of options.now) (map (λ s. s.now) words.now) ≡ Some job) }
+    ensures refusal { IfErr result
+        (OnNotACommand (index_query (options_of options.now) (map (λ s. s.now) words.now) ≡ None)) }
     ensures limited { IfOk result IsInLimits }
 {
     let (index, goals) = index_and_goals(alloc, words)?;
@@ -242,15 +262,19 @@ fn index_query(alloc: Global, options: &Options<'_>, words: &[&str]) -> Result<J
     })
 }
 
-// A query on a stored kernel; neither a clause limit nor `--hold` has a meaning there.
+// A query on a stored kernel, for which neither a clause limit nor `--hold` has a meaning.
 fn stored_query(
     alloc: Global,
     kernel: &str,
     options: &Options<'_>,
     words: &[&str],
 ) -> Result<Job, WordError>
-    ensures job { IfOk result (λ job. stored_query kernel.now (options_of options.now).budget (options_of options.now).clause_limit (options_of options.now).hold (map (λ s. s.now) words.now) ≡ Some job) }
-    ensures refusal { IfErr result (OnNotACommand (stored_query kernel.now (options_of options.now).budget (options_of options.now).clause_limit (options_of options.now).hold (map (λ s. s.now) words.now) ≡ None)) }
+    ensures job { IfOk result (λ job. stored_query kernel.now (options_of options.now).budget
+        (options_of options.now).clause_limit (options_of options.now).hold
+        (map (λ s. s.now) words.now) ≡ Some job) }
+    ensures refusal { IfErr result (OnNotACommand (stored_query kernel.now
+        (options_of options.now).budget (options_of options.now).clause_limit
+        (options_of options.now).hold (map (λ s. s.now) words.now) ≡ None)) }
     ensures limited { IfOk result IsInLimits }
 {
     if options.clause_limit.is_some() || options.hold {
@@ -266,14 +290,17 @@ fn stored_query(
     })
 }
 
-/// The job of the command of this name, by what was found after it: options with their values, and ordinary words.
+/// The job of the command with this name, by what was found after it: options with their values,
+/// and ordinary words.
 pub(crate) fn job_named<'a>(
     alloc: Global,
     name: &str,
     given: &ArgMatches<'a>,
 ) -> Result<Job, WordError>
-    ensures job { IfOk result (λ job. job_named name.now (options_by (first_value (found_of given.now))) (words_in (found_of given.now)) ≡ Some job) }
-    ensures refusal { IfErr result (OnNotACommand (job_named name.now (options_by (first_value (found_of given.now))) (words_in (found_of given.now)) ≡ None)) }
+    ensures job { IfOk result (λ job. job_named name.now (options_by
+        (first_value (found_of given.now))) (words_in (found_of given.now)) ≡ Some job) }
+    ensures refusal { IfErr result (OnNotACommand (job_named name.now
+        (options_by (first_value (found_of given.now))) (words_in (found_of given.now)) ≡ None)) }
     ensures limited { IfOk result IsInLimits }
 {
     // Each command takes ordinary words, so without any there is no job.
@@ -283,15 +310,17 @@ pub(crate) fn job_named<'a>(
     job_by_name(alloc, name, &Options::of(given), words)
 }
 
-// The job of the command of this name.
+// The job of the command with this name.
 fn job_by_name(
     alloc: Global,
     name: &str,
     options: &Options<'_>,
     words: &[&str],
 ) -> Result<Job, WordError>
-    ensures job { IfOk result (λ job. job_named name.now (options_of options.now) (map (λ s. s.now) words.now) ≡ Some job) }
-    ensures refusal { IfErr result (OnNotACommand (job_named name.now (options_of options.now) (map (λ s. s.now) words.now) ≡ None)) }
+    ensures job { IfOk result (λ job.
+        job_named name.now (options_of options.now) (map (λ s. s.now) words.now) ≡ Some job) }
+    ensures refusal { IfErr result (OnNotACommand
+        (job_named name.now (options_of options.now) (map (λ s. s.now) words.now) ≡ None)) }
     ensures limited { IfOk result IsInLimits }
 {
     match name {

@@ -9,8 +9,10 @@ use listed::has_digits_alone;
 
 /// The clause limit of an option.
 pub(crate) fn clause_limit_of(value: Option<&str>) -> Result<u32, WordError>
-    ensures number { IfOk result (λ n. clause_limit_of (option_map (λ s. s.now) value.entry) ≡ Some n) }
-    ensures refusal { IfErr result (OnNotACommand (clause_limit_of (option_map (λ s. s.now) value.entry) ≡ None)) }
+    ensures number { IfOk result (λ n.
+        clause_limit_of (option_map (λ s. s.now) value.entry) ≡ Some n) }
+    ensures refusal { IfErr result
+        (OnNotACommand (clause_limit_of (option_map (λ s. s.now) value.entry) ≡ None)) }
     ensures range { IfOk result (IsBetween 1 1000000) }
 {
     match number_or(value, 1, 1_000_000, 65_536) {
@@ -22,7 +24,8 @@ pub(crate) fn clause_limit_of(value: Option<&str>) -> Result<u32, WordError>
 /// The budget of an option, in failed leaves.
 pub(crate) fn budget_of(value: Option<&str>) -> Result<u64, WordError>
     ensures number { IfOk result (λ n. budget_of (option_map (λ s. s.now) value.entry) ≡ Some n) }
-    ensures refusal { IfErr result (OnNotACommand (budget_of (option_map (λ s. s.now) value.entry) ≡ None)) }
+    ensures refusal { IfErr result (OnNotACommand (budget_of (option_map (λ s. s.now) value.entry)
+        ≡ None)) }
     ensures range { IfOk result (IsBetween 1 1000000) }
 {
     number_or(value, 1, 1_000_000, 10_000).ok_or(WordError::NotACommand)
@@ -48,7 +51,7 @@ pub(crate) fn count_of(word: &str) -> Result<u32, WordError>
     }
 }
 
-// The number of an option, or the default where the option was not given.
+// The number of an option, or the default if the option was not given.
 fn number_or(value: Option<&str>, least: u64, most: u64, default: u64) -> Option<u64>
     requires { IsBetween least most default }
     ensures number { result ≡ number_or least most default (option_map (λ s. s.now) value.entry) }
@@ -60,7 +63,7 @@ fn number_or(value: Option<&str>, least: u64, most: u64, default: u64) -> Option
     }
 }
 
-// The number that a word gives, where it lies in a range.
+// The number that a word gives, if it lies in a range.
 fn number_in(word: &str, least: u64, most: u64) -> Option<u64>
     ensures number { result ≡ number_in least most word.now }
     ensures range { IfSome result (IsBetween least most) }

@@ -41,7 +41,8 @@ fn command<'a>(
     flags: &[&'a str],
     with_value: &[&'a str],
 ) -> Result<Command<'a>, AllocError>
-    ensures { IfOk result (IsCommand name.entry.now (map (λ s. s.now) flags.now) (map (λ s. s.now) with_value.now)) }
+    ensures { IfOk result
+        (IsCommand name.entry.now (map (λ s. s.now) flags.now) (map (λ s. s.now) with_value.now)) }
 {
     let mut command = Command::new(alloc, name);
     for option in flags {
@@ -61,7 +62,12 @@ fn add_command<'a>(
     flags: &[&'a str],
     with_value: &[&'a str],
 ) -> Result<Command<'a>, AllocError>
-    ensures { IfOk result (λ c. app_of c ≡ with_subcommand (app_of program.entry) (shape_of_usage (record { name = name.entry.now; flags = map (λ s. s.now) flags.now; valued = map (λ s. s.now) with_value.now }))) }
+    ensures { IfOk result (λ c. app_of c
+        ≡ with_subcommand (app_of program.entry) (shape_of_usage (record {
+          name = name.entry.now;
+          flags = map (λ s. s.now) flags.now;
+          valued = map (λ s. s.now) with_value.now;
+        }))) }
 {
     program.subcommand(command(alloc, name, flags, with_value)?)
 }
@@ -89,7 +95,7 @@ fn program<'a>(alloc: Global) -> Result<Command<'a>, AllocError>
     Ok(program)
 }
 
-// Want of memory is told apart from words that are refused.
+// Tells want of memory apart from words that are refused.
 fn refusal(error: &Error) -> WordError
     ensures { OnNotACommand (kind_of error.now ≡ ErrorKind.OutOfMemory → ⊥) result }
 {
@@ -100,10 +106,11 @@ fn refusal(error: &Error) -> WordError
     }
 }
 
-/// The command that the words name, with what they say.
+/// The command that the words name, and what they say.
 pub(crate) fn parse<'a>(alloc: Global, words: &'a [String]) -> Result<ArgMatches<'a>, WordError>
     ensures said { IfOk result (Enters (said_of usages (map string_bytes words.entry.now))) }
-    ensures refusal { IfErr result (OnNotACommand (said_of usages (map string_bytes words.entry.now) ≡ None)) }
+    ensures refusal { IfErr result (OnNotACommand (said_of usages (map string_bytes words.entry.now)
+        ≡ None)) }
 {
     match program(alloc)?.try_get_matches_from(words) {
         Ok(matches) => Ok(matches),

@@ -21,7 +21,7 @@ impl Model for PathText {
 }
 
 impl PathText {
-    /// A copy of the path; it fails only where no memory is found.
+    /// A copy of the path.
     pub fn copy(alloc: Global, text: &str) -> Result<Self, AllocError>
         ensures { IfOk result (λ t. t ≡ text.now) }
     {
@@ -30,7 +30,7 @@ impl PathText {
         })
     }
 
-    /// Lends the path; it takes no memory.
+    /// Lends the path.
     pub fn as_str(&self) -> &str
         ensures { result.now ≡ self.now }
     {

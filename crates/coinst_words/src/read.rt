@@ -8,7 +8,7 @@ use crate::jobs::job_named;
 use crate::parse::parse;
 use std::alloc::Global;
 
-/// The job that the words after the program's name ask for, or that they ask for none.
+/// The job that the words after the program's name ask for, if they ask for one.
 pub fn read_words(alloc: Global, words: &[String]) -> Result<Job, WordError>
     ensures job { IfOk result (λ job. job_of (map string_bytes words.now) ≡ Some job) }
     ensures refusal { IfErr result (OnNotACommand (job_of (map string_bytes words.now) ≡ None)) }

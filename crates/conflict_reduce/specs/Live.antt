@@ -12,7 +12,8 @@ may_face table (m ∷ ms) = not (eqb (length (common_to table m ms)) 0)
 
 -- the ids of the clauses of a package that can take part
 abbrev pub live_ids : Interned → Book → ℕ → List ℕ
-live_ids pool book p = filter (λ id. may_face book.conflicts (clause_at pool id)) (ids_at pool (row_id book.rows p))
+live_ids pool book p =
+    filter (λ id. may_face book.conflicts (clause_at pool id)) (ids_at pool (row_id book.rows p))
 
 -- for each package the ids of its clauses that can take part
 unfoldable pub live_of : Interned → Book → List (List ℕ)

@@ -1,5 +1,5 @@
-//! Whether two packages exclude each other by other conflicts that are left. No list of conflicts is gone through where a
-//! look at the members of a clause will do.
+//! Whether two packages exclude each other by other conflicts that are left. No list of conflicts
+//! is gone through if a look at the members of a clause is enough.
 ghost use Rattle.std.specs.Prelude.{◌≡◌};
 ghost use Rattle.row_book.specs.Thinning.{is_pair};
 ghost use Rattle.conflict_reduce.specs.Ascending.{AreAscending, AreAscending-prop};
@@ -9,12 +9,12 @@ use clause_pool::{ClauseId, NumList, Pool, has_side_within};
 use row_book::{Pair, are_against, conflicts_of};
 use std::alloc::{AllocError, Global};
 
-/// The conflicts of a table that are not gone, but for that of one pair.
+/// The conflicts of a table that are not gone, without that of one pair.
 #[derive(Clone, Copy)]
 pub(crate) struct OtherConflicts<'a> {
     /// The conflicts of each package.
     pub(crate) table: &'a [NumList],
-    /// Those of them that are gone.
+    /// The conflicts that are gone, for each package.
     pub(crate) gone: &'a [NumList],
     /// The pair whose conflict does not count.
     pub(crate) pair: Pair,
@@ -42,14 +42,14 @@ impl OtherConflicts<'_> {
         are_against(self.table, m, n) && !are_against(self.gone, m, n)
     }
 
-    // Whether a conflict of m and n is left, by another pair than the given one.
+    // Whether a conflict of m and n is left, and they are not the given pair.
     fn conflict(&self, m: u32, n: u32) -> bool
         ensures { result ≡ is_other_conflict self.now m n }
     {
         !is_the_pair(self.pair, m, n) && self.are_left(m, n)
     }
 
-    // Whether each number of the list conflicts so with the package.
+    // Whether each number of the list has such a conflict with the package.
     fn each_conflicts(&self, list: &[u32], number: u32) -> bool
         ensures { result ≡ list_all (λ m. is_other_conflict self.now m number) list.now }
     {
@@ -61,7 +61,8 @@ impl OtherConflicts<'_> {
         true
     }
 
-    // The conflicts of the first package, by the table, with which each number of the list conflicts so.
+    // The conflicts of the first package, by the table, that have such a conflict with each number
+    // of the list.
     fn common(&self, alloc: Global, first: u32, list: &[u32]) -> Result<Vec<u32>, AllocError>
         ensures { IfOk result (λ common. common.items ≡ common_others self.now first list.now) }
     {
@@ -74,7 +75,7 @@ impl OtherConflicts<'_> {
         Ok(common)
     }
 
-    // Whether the package conflicts so with each number of the list.
+    // Whether the package has such a conflict with each number of the list.
     fn conflicts_with_each(&self, number: u32, list: &[u32]) -> bool
         ensures { result ≡ list_all (is_other_conflict self.now number) list.now }
     {
@@ -86,7 +87,7 @@ impl OtherConflicts<'_> {
         true
     }
 
-    // Whether the lists conflict so as a whole.
+    // Whether the lists conflict as a whole, by such conflicts.
     fn all_conflict(&self, list: &[u32], other: &[u32]) -> bool
         ensures { result ≡ all_against (is_other_conflict self.now) list.now other.now }
     {
@@ -98,10 +99,11 @@ impl OtherConflicts<'_> {
         true
     }
 
-    // Whether the list conflicts so as a whole with a clause of the row, by a look at each.
+    // Whether the list conflicts as a whole with a clause of the row, by a look at each.
     fn faces_clause(&self, pool: &Pool, list: &[u32], row: &[ClauseId]) -> bool
         requires row { OfPool pool.now row.now }
-        ensures { result ≡ list_any (all_against (is_other_conflict self.now) list.now) (clauses_at pool.now row.now) }
+        ensures { result ≡ list_any (all_against (is_other_conflict self.now) list.now)
+            (clauses_at pool.now row.now) }
     {
         for id in row {
             if self.all_conflict(list, pool.slice(*id)) {
@@ -111,8 +113,9 @@ impl OtherConflicts<'_> {
         false
     }
 
-    // Whether the list, which begins with the first number, conflicts so as a whole with the greater package of the pair, or
-    // with a clause of its row: whether that is within the packages that conflict so with each member of the list.
+    // Whether the list, which begins with the first number, conflicts as a whole with the greater
+    // package of the pair, or with a clause of its row. It does if that lies within the packages
+    // that conflict with each member of the list.
     fn faces_common(
         &self,
         alloc: Global,
@@ -125,15 +128,16 @@ impl OtherConflicts<'_> {
         requires first { (others : List ℕ) × (list.now ≡ first ∷ others) }
         requires row { OfPool pool.now row.now }
         requires order { InOrder (clauses_at pool.now row.now) }
-        ensures { IfOk result (λ faces. faces ≡ list_any (all_against (is_other_conflict self.now) list.now) ((self.now.pair.high ∷ []) ∷ clauses_at pool.now row.now)) }
+        ensures { IfOk result (λ faces. faces ≡ list_any (all_against (is_other_conflict self.now)
+            list.now) ((self.now.pair.high ∷ []) ∷ clauses_at pool.now row.now)) }
     {
         let common = self.common(alloc, first, list)?;
         let faces = has_side_within(pool, self.pair.high, row, common.as_slice());
         Ok(faces)
     }
 
-    // Whether the list conflicts so as a whole with the greater package of the pair, or with a clause of its row. A row that
-    // is longer than the list of a member's conflicts is not gone through.
+    // Whether the list conflicts as a whole with the greater package of the pair, or with a clause
+    // of its row. A row that is longer than the list of a member's conflicts is not gone through.
     fn faces_greater(
         &self,
         alloc: Global,
@@ -144,7 +148,8 @@ impl OtherConflicts<'_> {
         requires pool { IsPool pool.now }
         requires row { OfPool pool.now row.now }
         requires order { InOrder (clauses_at pool.now row.now) }
-        ensures { IfOk result (λ faces. faces ≡ list_any (all_against (is_other_conflict self.now) list.now) ((self.now.pair.high ∷ []) ∷ clauses_at pool.now row.now)) }
+        ensures { IfOk result (λ faces. faces ≡ list_any (all_against (is_other_conflict self.now)
+            list.now) ((self.now.pair.high ∷ []) ∷ clauses_at pool.now row.now)) }
     {
         match list.split_first() {
             None => Ok(true),
@@ -157,7 +162,7 @@ impl OtherConflicts<'_> {
         }
     }
 
-    // Whether a clause of the one row conflicts so as a whole with a side of the greater package.
+    // Whether a clause of the first row conflicts as a whole with a side of the greater package.
     fn rows_face(
         &self,
         alloc: Global,
@@ -169,7 +174,8 @@ impl OtherConflicts<'_> {
         requires first { OfPool pool.now first.now }
         requires second { OfPool pool.now second.now }
         requires order { InOrder (clauses_at pool.now second.now) }
-        ensures { IfOk result (λ faces. faces ≡ face (is_other_conflict self.now) (clauses_at pool.now first.now) ((self.now.pair.high ∷ []) ∷ clauses_at pool.now second.now)) }
+        ensures { IfOk result (λ faces. faces ≡ face (is_other_conflict self.now) (clauses_at
+            pool.now first.now) ((self.now.pair.high ∷ []) ∷ clauses_at pool.now second.now)) }
     {
         for id in first {
             let faces = self.faces_greater(alloc, pool, pool.slice(*id), second)?;
@@ -180,7 +186,8 @@ impl OtherConflicts<'_> {
         Ok(false)
     }
 
-    // Whether a side of the lesser package conflicts so as a whole with a side of the greater one, by their rows.
+    // Whether a side of the lesser package conflicts as a whole with a side of the greater one, by
+    // their rows.
     fn sides_face(
         &self,
         alloc: Global,
@@ -192,7 +199,9 @@ impl OtherConflicts<'_> {
         requires first { OfPool pool.now first.now }
         requires second { OfPool pool.now second.now }
         requires order { InOrder (clauses_at pool.now second.now) }
-        ensures { IfOk result (λ faces. faces ≡ face (is_other_conflict self.now) ((self.now.pair.low ∷ []) ∷ clauses_at pool.now first.now) ((self.now.pair.high ∷ []) ∷ clauses_at pool.now second.now)) }
+        ensures { IfOk result (λ faces. faces ≡ face (is_other_conflict self.now)
+            ((self.now.pair.low ∷ []) ∷ clauses_at pool.now first.now) ((self.now.pair.high ∷ [])
+            ∷ clauses_at pool.now second.now)) }
     {
         let faces = self.faces_greater(alloc, pool, &[self.pair.low], second)?;
         if faces {
@@ -207,7 +216,8 @@ impl LiveBook<'_> {
     ghost use Rattle.row_book.specs.Thinning.{is_redundant};
     ghost use Rattle.conflict_reduce.specs.{Ascending.{AreAscending}, Live.{IsLiveBook}, Tests.{book_left}};
 
-    /// Whether the packages of the pair exclude each other by other conflicts of the book that are left.
+    /// Whether the packages of the pair exclude each other by other conflicts of the book that are
+    /// left.
     pub(crate) fn is_redundant(
         &self,
         alloc: Global,
@@ -218,7 +228,8 @@ impl LiveBook<'_> {
         requires low { pair.low < length self.now.book.now.rows }
         requires high { pair.high < length self.now.book.now.rows }
         requires gone { AreAscending gone.now }
-        ensures { IfOk result (λ redundant. redundant ≡ is_redundant (book_left self.now.pool.now self.now.book.now gone.now) pair.low pair.high) }
+        ensures { IfOk result (λ redundant. redundant ≡ is_redundant
+            (book_left self.now.pool.now self.now.book.now gone.now) pair.low pair.high) }
     {
         let others = OtherConflicts {
             table: self.book.conflicts.as_slice(),

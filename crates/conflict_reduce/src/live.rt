@@ -1,5 +1,5 @@
-//! The clauses that can take part in thinning. Conflicts only go away in the pass, so a clause whose members have no
-//! conflict in common when it begins excludes no package.
+//! The clauses that can take part in thinning. Conflicts only go away in the pass, so a clause
+//! whose members have no conflict in common when it begins excludes no package.
 ghost use Rattle.std.specs.Prelude.{◌≡◌, IfOk, filter};
 ghost use Rattle.clause_pool.specs.Interned.{clause_at, OfPool};
 ghost use Rattle.row_book.specs.Book.{listed_for, Sound};
@@ -36,7 +36,8 @@ fn live_row(
 ) -> Result<IdList, AllocError>
     requires row { OfPool pool.now row.now }
     requires table { AreAscending table.now }
-    ensures { IfOk result (λ made. made ≡ filter (λ id. may_face table.now (clause_at pool.now id)) row.now) }
+    ensures { IfOk result (λ made. made
+        ≡ filter (λ id. may_face table.now (clause_at pool.now id)) row.now) }
 {
     let mut made = IdList::new(alloc);
     for id in row {
@@ -55,7 +56,7 @@ pub(crate) struct LiveBook<'a> {
     pub(crate) pool: &'a Pool,
     /// The book as it was before any conflict went.
     pub(crate) book: &'a Book,
-    /// For each package those of its clauses.
+    /// For each package its clauses that can take part.
     pub(crate) live: Vec<IdList>,
 }
 

@@ -1,5 +1,5 @@
-//! Thinning of a book. The book's own conflicts stay in their lists, and those that are dropped are put into lists of
-//! their own: so no list is moved up for one that goes.
+//! Thinning of a book. The book's own conflicts stay in their lists, and those that are dropped are
+//! recorded in lists of their own. So no list is shifted for one that goes.
 ghost use Rattle.std.specs.Prelude.{◌≡◌, ◌<◌, ◌+◌, IfOk, OnOk, filter, length, not};
 ghost use Rattle.row_book.specs.{Book.{listed_for, repository_of, Sound}, Facing.{against_in}, Repository.{Repository}, Keeping.{KeepsHealthySets}};
 ghost use Rattle.row_book.specs.Thinning.{thin, thin_over};
@@ -13,7 +13,7 @@ use listed::{Listed, empty_lists};
 use row_book::{Book, Pair, are_against, conflicts_of};
 use std::alloc::{AllocError, Global};
 
-// Puts the number behind the list of a package.
+// Appends the number to the list of a package.
 fn put_behind(table: &mut Vec<NumList>, holder: u32, number: u32) -> Result<(), AllocError>
     requires { holder < length table.old.items }
     ensures { OnOk result (table.new.items ≡ with_behind table.old.items holder number) }
@@ -23,7 +23,7 @@ fn put_behind(table: &mut Vec<NumList>, holder: u32, number: u32) -> Result<(), 
     Ok(())
 }
 
-// Puts the conflict of two packages behind those that are gone.
+// Adds the conflict of two packages to those that are gone.
 fn drop_conflict(gone: &mut Vec<NumList>, a: u32, b: u32) -> Result<(), AllocError>
     requires a { a < length gone.old.items }
     requires b { b < length gone.old.items }
@@ -34,8 +34,8 @@ fn drop_conflict(gone: &mut Vec<NumList>, a: u32, b: u32) -> Result<(), AllocErr
 }
 
 impl LiveBook<'_> {
-    // Drops the conflict of a package with another one, where that is the greater and the conflict is redundant in what is
-    // left.
+    // Drops the conflict of a package with another one, if that is the greater and the conflict is
+    // redundant in what is left.
     fn thin_pair(
         &self,
         alloc: Global,
@@ -48,7 +48,8 @@ impl LiveBook<'_> {
         requires gone { AreAscending gone.old.items }
         requires a { a < length self.now.book.now.rows }
         requires b { b < length self.now.book.now.rows }
-        ensures { OnOk result (gone.new.items ≡ gone_after (book_left self.now.pool.now self.now.book.now gone.old.items) gone.old.items a b) }
+        ensures { OnOk result (gone.new.items ≡ gone_after
+            (book_left self.now.pool.now self.now.book.now gone.old.items) gone.old.items a b) }
     {
         if a >= b {
             return Ok(());
@@ -61,7 +62,8 @@ impl LiveBook<'_> {
         Ok(())
     }
 
-    // Drops the conflicts of a package with the greater ones in turn, each where it is redundant in what is left.
+    // Drops in turn the conflicts of a package with greater ones, each if it is redundant in what
+    // is left.
     fn thin_package(
         &self,
         alloc: Global,
@@ -73,8 +75,11 @@ impl LiveBook<'_> {
         requires inside { number < length self.now.book.now.rows }
         requires list { list.now ≡ listed_for self.now.book.now.conflicts number }
         requires passed { PassedBelow gone.old.items (length self.now.book.now.rows) number }
-        ensures left { OnOk result (◌≡◌ {A = Repository} (book_left self.now.pool.now self.now.book.now gone.new.items) (thin_over (book_left self.now.pool.now self.now.book.now gone.old.items) (pairs_with number list.now))) }
-        ensures passed { OnOk result (PassedBelow gone.new.items (length self.now.book.now.rows) (number + 1)) }
+        ensures left { OnOk result (◌≡◌ {A = Repository}
+            (book_left self.now.pool.now self.now.book.now gone.new.items) (thin_over (book_left
+            self.now.pool.now self.now.book.now gone.old.items) (pairs_with number list.now))) }
+        ensures passed { OnOk result
+            (PassedBelow gone.new.items (length self.now.book.now.rows) (number + 1)) }
     {
         for other in list {
             self.thin_pair(alloc, gone, number, *other)?;
@@ -86,7 +91,8 @@ impl LiveBook<'_> {
 // The conflicts that go when the book is thinned.
 fn gone_of(alloc: Global, pool: &Pool, book: &Book) -> Result<Vec<NumList>, AllocError>
     requires { Sound pool.now book.now }
-    ensures thinned { IfOk result (λ gone. ◌≡◌ {A = Repository} (book_left pool.now book.now gone.items) (thin (repository_of pool.now book.now))) }
+    ensures thinned { IfOk result (λ gone. ◌≡◌ {A = Repository}
+        (book_left pool.now book.now gone.items) (thin (repository_of pool.now book.now))) }
     ensures ascending { IfOk result (λ gone. AreAscending gone.items) }
 {
     let live = live_rows(alloc, pool, book)?;
@@ -99,7 +105,7 @@ fn gone_of(alloc: Global, pool: &Pool, book: &Book) -> Result<Vec<NumList>, Allo
     Ok(gone)
 }
 
-// The conflicts of a package in the list that are not gone.
+// The conflicts of the package in the list that are not gone.
 fn left_list(
     alloc: Global,
     gone: &[NumList],
@@ -107,7 +113,8 @@ fn left_list(
     list: &[u32],
 ) -> Result<NumList, AllocError>
     requires { Ascending (listed_for gone.now number) }
-    ensures { IfOk result (λ made. made ≡ filter (λ q. not (against_in gone.now number q)) list.now) }
+    ensures { IfOk result (λ made. made
+        ≡ filter (λ q. not (against_in gone.now number q)) list.now) }
 {
     if conflicts_of(gone, number).is_empty() {
         return Ok(Listed::of(Vec::from_slice(alloc, list)?));
@@ -121,7 +128,7 @@ fn left_list(
     Ok(made)
 }
 
-// What is left of so many lists of conflicts.
+// The lists of conflicts without those that are gone.
 fn left_lists(
     alloc: Global,
     table: &[NumList],
@@ -141,12 +148,13 @@ fn left_lists(
     Ok(made)
 }
 
-/// The thinned book: each conflict is dropped in turn that is redundant in what is left. It fails only where no memory is
-/// found.
+/// The thinned book: each conflict is dropped in turn that is redundant in what is left.
 pub fn thin(alloc: Global, pool: &Pool, book: &Book) -> Result<Book, AllocError>
     requires { Sound pool.now book.now }
-    ensures thinned { IfOk result (λ made. repository_of pool.now made ≡ thin (repository_of pool.now book.now)) }
-    ensures keeps { IfOk result (λ made. KeepsHealthySets (repository_of pool.now book.now) (repository_of pool.now made)) }
+    ensures thinned { IfOk result (λ made. repository_of pool.now made
+        ≡ thin (repository_of pool.now book.now)) }
+    ensures keeps { IfOk result (λ made.
+        KeepsHealthySets (repository_of pool.now book.now) (repository_of pool.now made)) }
     ensures rows { IfOk result (λ made. made.rows ≡ book.now.rows) }
     ensures sound { IfOk result (Sound pool.now) }
 {

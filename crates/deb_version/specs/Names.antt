@@ -1,6 +1,6 @@
--- The names of packages. A name has at least one character, each is an ASCII letter of either case, a
--- digit or one of `+ - . _`, and the first is a letter or a digit. This is wider than Debian Policy
--- 5.6.1 and 5.6.7, which want two characters and more, no upper-case letter and no `_`.
+-- The names of packages. The first character is an ASCII letter of either case or a digit; any
+-- further one is such a character or one of `+ - . _`. This is wider than Debian Policy 5.6.1 and
+-- 5.6.7: these want at least two characters, no upper-case letter and no `_`.
 use Rattle.std.specs.{Prelude.{ℕ, Bool, false, ◌&&◌, ◌||◌, ◌==◌, List, [], ◌∷◌}, Char.{is_ascii_alphanumeric}, List.{list_all}}
 
 -- a letter, a digit or one of `+ - . _`

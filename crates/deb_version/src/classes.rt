@@ -1,5 +1,5 @@
-//! Which bytes may stand in names and in versions. A byte is looked up in a table, which takes less than comparing it with each
-//! range of bytes.
+//! The bytes that may stand in names and in versions. A byte is looked up in a table, which is
+//! faster than comparing it with each range of bytes.
 ghost use Rattle.std.specs.Prelude.{◌≡◌};
 ghost use Rattle.deb_version.specs.{Names.{is_name_byte}, Grammar.{is_revision_byte, is_upstream_byte}};
 

@@ -1,11 +1,11 @@
-//! Where the parts of a version stand, and what may stand in them.
+//! How a version is cut into its parts, and what may stand in them.
 ghost use Rattle.std.specs.{Prelude.{◌≡◌, ◌≤◌, true, not, length, IsTrue}, List.{position, suffix_len, list_all}, Option.{option_copied, option_map_or}};
 ghost use Rattle.deb_version.specs.Grammar.{is_colon, is_hyphen, epoch_of, behind_epoch, upstream_in, revision_in, upstream_of, revision_of, is_epoch, is_revision_byte, is_upstream_byte, is_upstream, is_revision, are_parts, is_version};
 
 use crate::classes::{is_revision_byte, is_upstream_byte};
 use listed::has_digits_alone;
 
-/// The text of a version cut into its parts; an epoch or a revision that is not written is missing.
+/// The text of a version cut into its parts; an epoch or a revision that is not written is `None`.
 #[derive(Clone, Copy)]
 pub(crate) struct VersionParts<'a> {
     pub(crate) epoch: Option<&'a [u8]>,
@@ -13,7 +13,7 @@ pub(crate) struct VersionParts<'a> {
     pub(crate) revision: Option<&'a [u8]>,
 }
 
-/// Cuts the text at its first colon and, behind that, at its last hyphen.
+/// Cuts the text at its first colon, and what follows at its last hyphen.
 pub(crate) fn cut(text: &[u8]) -> VersionParts<'_>
     ensures epoch { option_copied result.epoch ≡ epoch_of text.now }
     ensures upstream { result.upstream.now ≡ upstream_of text.now }
@@ -28,7 +28,7 @@ pub(crate) fn cut(text: &[u8]) -> VersionParts<'_>
     }
 }
 
-// The epoch, and what stands behind it.
+// The epoch, and what follows it.
 fn cut_epoch(text: &[u8]) -> (Option<&[u8]>, &[u8])
     ensures epoch { option_copied result.0 ≡ epoch_of text.now }
     ensures rest { result.1.now ≡ behind_epoch text.now }
@@ -46,7 +46,7 @@ fn colon_place(text: &[u8]) -> Option<usize>
     text.iter().position(|byte| *byte == b':')
 }
 
-// The upstream part and the revision of what stands behind an epoch.
+// The upstream part and the revision of what follows an epoch.
 fn cut_revision(rest: &[u8]) -> (&[u8], Option<&[u8]>)
     ensures upstream { result.0.now ≡ upstream_in rest.now }
     ensures revision { option_copied result.1 ≡ revision_in rest.now }
@@ -59,7 +59,7 @@ fn cut_revision(rest: &[u8]) -> (&[u8], Option<&[u8]>)
     (&rest[..place], Some(&rest[place + 1..]))
 }
 
-// How many bytes stand behind the last hyphen, or in the text where there is none.
+// How many bytes follow the last hyphen; all of them if there is none.
 fn tail_len(text: &[u8]) -> usize
     ensures is { result ≡ suffix_len (λ c. not (is_hyphen c)) text.now }
     ensures within { result ≤ length text.now }
@@ -81,7 +81,8 @@ pub(crate) fn is_well_formed(text: &[u8]) -> bool
 
 // Whether the parts are well formed, as far as they are written.
 fn are_well_formed(parts: VersionParts) -> bool
-    ensures { result ≡ are_parts (option_copied parts.entry.epoch) parts.entry.upstream.now (option_copied parts.entry.revision) }
+    ensures { result ≡ are_parts (option_copied parts.entry.epoch) parts.entry.upstream.now
+        (option_copied parts.entry.revision) }
 {
     fits_epoch(parts.epoch) && fits_upstream(parts.upstream) && fits_revision(parts.revision)
 }

@@ -6,8 +6,8 @@ use std::cmp::Ordering;
 
 /// Compares the numbers that two runs of digits write.
 ///
-/// Without its leading zeros the longer run is the greater number, and of two runs of one length the first digit
-/// that differs decides.
+/// Without its leading zeros the longer run is the greater number, and of two runs of one length
+/// the first digit that differs decides.
 pub(crate) fn order_numbers(left: &[u8], right: &[u8]) -> Ordering
     requires left { list_all is_ascii_digit left.now ≡ true }
     requires right { list_all is_ascii_digit right.now ≡ true }
@@ -18,7 +18,7 @@ pub(crate) fn order_numbers(left: &[u8], right: &[u8]) -> Ordering
     left.len().cmp(&right.len()).then(left.cmp(right))
 }
 
-/// The digits behind the leading zeros.
+/// The digits after the leading zeros.
 pub(crate) fn without_zeros(digits: &[u8]) -> &[u8]
     ensures { result.now ≡ without_zeros digits.now }
 {

@@ -6,7 +6,7 @@ use crate::digits::without_zeros;
 use crate::parts::front;
 use std::alloc::AllocError;
 
-/// Writes the key of a part behind what was written.
+/// Appends the key of a part.
 pub(crate) fn push_part(out: &mut Vec<u8>, part: &[u8]) -> Result<(), AllocError>
     ensures { OnOk result (out.new.items ≡ out.old.items ++ part_key part.now) }
 {
@@ -20,7 +20,7 @@ pub(crate) fn push_part(out: &mut Vec<u8>, part: &[u8]) -> Result<(), AllocError
     Ok(())
 }
 
-// The number of which these digits are left, before what follows in its part.
+// The number that these digits write without leading zeros, before what follows in its part.
 fn number_before<'a>(digits: &'a [u8], more: &[u8]) -> &'a [u8]
     ensures { result.now ≡ number_before digits.now more.now }
 {

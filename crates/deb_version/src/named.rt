@@ -3,7 +3,7 @@ ghost use Rattle.std.specs.Prelude.{◌≡◌, ℕ, List};
 
 use crate::versions::Version;
 
-/// What has a name and a version, as a package of an index.
+/// Something with a name and a version, as a package of an index.
 pub trait Named {
     ghost name_of: { Self → List ℕ };
 

@@ -25,7 +25,7 @@ pub(crate) fn order_parts(left: &[u8], right: &[u8]) -> Ordering
     Ordering::Equal
 }
 
-/// The two pieces at the front of a part, and what is left behind them.
+/// The two pieces at the front of a part, and what is left after them.
 #[derive(Clone, Copy)]
 pub(crate) struct Pieces<'a> {
     pub(crate) plain: &'a [u8],
@@ -50,11 +50,13 @@ pub(crate) fn front(part: &[u8]) -> Pieces<'_>
     }
 }
 
-// Compares the pieces without digits, and where these are alike the numbers behind them.
+// Compares the pieces without digits, and if these are alike the numbers after them.
 fn order_fronts(left: Pieces, right: Pieces) -> Ordering
     requires left { list_all is_ascii_digit left.digits.now ≡ true }
     requires right { list_all is_ascii_digit right.digits.now ≡ true }
-    ensures { result ≡ ordering_then (slice_cmp int_cmp (weights left.entry.plain.now) (weights right.entry.plain.now)) (nat_cmp (number left.entry.digits.now) (number right.entry.digits.now)) }
+    ensures { result ≡ ordering_then
+        (slice_cmp int_cmp (weights left.entry.plain.now) (weights right.entry.plain.now))
+        (nat_cmp (number left.entry.digits.now) (number right.entry.digits.now)) }
 {
     let found = order_plain(left.plain, right.plain);
     if found.is_ne() {
@@ -105,7 +107,8 @@ fn order_plain(left: &[u8], right: &[u8]) -> Ordering
 
 // Compares the weights at the place.
 fn order_at(left: &[u8], right: &[u8], place: usize) -> Ordering
-    ensures { result ≡ int_cmp (weight_at_front (drop place left.now)) (weight_at_front (drop place right.now)) }
+    ensures { result
+        ≡ int_cmp (weight_at_front (drop place left.now)) (weight_at_front (drop place right.now)) }
 {
     weight_at(left, place).cmp(&weight_at(right, place))
 }
@@ -120,7 +123,8 @@ fn weight_at(piece: &[u8], place: usize) -> i16
     }
 }
 
-// The tilde comes before the end of a piece, the end before the letters, and these before the other bytes.
+// The tilde comes before the end of a piece, the end before the letters, and these before the other
+// bytes.
 fn weight_of(byte: u8) -> i16
     ensures { result ≡ weight byte }
 {

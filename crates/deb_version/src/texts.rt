@@ -8,7 +8,7 @@ use std::marker::Model;
 /// An owned text, byte for byte.
 #[derive(Drop)]
 pub struct Bytes {
-    // Most texts are short, and then take no memory of their own.
+    // Most texts are short, and are kept here without memory of their own.
     bytes: SmallVec<u8, 16>,
 }
 
@@ -23,7 +23,7 @@ impl Model for Bytes {
 }
 
 impl Bytes {
-    /// A copy of the text; it fails only where no memory is found.
+    /// A copy of the text.
     pub fn copy(alloc: Global, text: &[u8]) -> Result<Self, AllocError>
         ensures { IfOk result (λ t. t ≡ text.now) }
     {
@@ -32,7 +32,7 @@ impl Bytes {
         })
     }
 
-    /// The text of a vector's bytes; it takes no memory.
+    /// The text of a vector's bytes.
     pub fn of(bytes: Vec<u8>) -> Self
         ensures { result ≡ bytes.items }
     {
@@ -41,7 +41,7 @@ impl Bytes {
         }
     }
 
-    /// Lends the text; it takes no memory.
+    /// Lends the text.
     pub fn as_slice(&self) -> &[u8]
         ensures { result.now ≡ self.now }
     {

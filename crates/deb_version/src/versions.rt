@@ -51,7 +51,7 @@ impl Model for Version {
 }
 
 impl Version {
-    /// Reads a version; a text outside the grammar is refused before any memory is asked for.
+    /// Reads a version. A text outside the grammar is refused before any memory is asked for.
     pub fn parse(alloc: Global, text: &[u8]) -> Result<Self, VersionError>
         ensures text { IfOk result (λ v. v ≡ text.now) }
         ensures grammar { OnOk result (is_version text.now ≡ true) }
@@ -66,14 +66,15 @@ impl Version {
         })
     }
 
-    /// Compares two versions; it takes no memory, and time linear in the two texts.
+    /// Compares two versions, in time linear in the two texts.
     pub fn order(&self, other: &Version) -> Ordering
         ensures { result ≡ version_order self.now other.now }
     {
         order_texts(self.text(), other.text())
     }
 
-    /// A text that is the same for versions that compare as equal, and for no others; it takes time linear in the text.
+    /// A text that is equal for two versions exactly if they compare as equal. It takes time linear
+    /// in the text.
     pub fn key(&self, alloc: Global) -> Result<Bytes, AllocError>
         ensures { IfOk result (λ key. key ≡ version_key self.now) }
     {
@@ -83,8 +84,8 @@ impl Version {
         Ok(Bytes::of(key))
     }
 
-    /// Writes the key after what was written, so that a longer key can hold it without a copy; where no memory is found, a
-    /// part of it may be written.
+    /// Appends the key, so that a longer key can hold it without a copy. Without memory a part of
+    /// it may be written.
     #[tactic(auto, using(std::proofs::Common::append_assoc), unfolding(crate::specs::Keys::version_key))]
     pub fn push_key(&self, out: &mut Vec<u8>) -> Result<(), AllocError>
         ensures { OnOk result (out.new.items ≡ out.old.items ++ version_key self.now) }
@@ -98,7 +99,7 @@ impl Version {
         Ok(())
     }
 
-    /// Lends the text that was parsed; it takes no memory.
+    /// Lends the text that was parsed.
     pub fn text(&self) -> &[u8]
         ensures value { result.now ≡ self.now }
         ensures grammar { is_version self.now ≡ true }
@@ -107,7 +108,8 @@ impl Version {
     }
 }
 
-// Compares two texts of versions by their epochs, then by their upstream parts, then by their revisions.
+// Compares two texts of versions by their epochs, then by their upstream parts, then by their
+// revisions.
 fn order_texts(left: &[u8], right: &[u8]) -> Ordering
     requires left { is_version left.now ≡ true }
     requires right { is_version right.now ≡ true }
@@ -129,24 +131,25 @@ fn order_texts(left: &[u8], right: &[u8]) -> Ordering
     )
 }
 
-// What is written, or else the `0` that a missing epoch and a missing revision count as.
+// What is written; a missing epoch or revision counts as `0`.
 fn written_or_zero(written: Option<&[u8]>) -> &[u8]
     ensures { result.now ≡ unwrap_or (option_copied written.entry) or_zero }
 {
     written.unwrap_or(b"0")
 }
 
-/// The order of versions is total up to equal versions, so that callers may sort and search by it: each version is
-/// equal to itself, two that are each at most the other are equal, "at most" goes on from one to the next, and of two
-/// versions one is at most the other. Equal versions need not be the same text.
+/// The order of versions is total up to equal versions, so callers may sort and search by it. Equal
+/// versions need not be the same text.
 pub fn order_is_total()
     ensures laws { IsTotalUpToTies version_order }
     ensures sorts { IsTotalOrder version_order }
 {}
 
-/// Versions that compare as equal have the same key, so that they may be looked up by it, and versions with the same key
-/// compare as equal.
+/// Two versions have the same key exactly if they compare as equal, so versions may be looked up by
+/// it.
 pub fn keys_are_shared()
-    ensures by_equals { (v w : List ℕ) → is_version v ≡ true → is_version w ≡ true → version_order v w ≡ Ordering.Equal → version_key v ≡ version_key w }
-    ensures by_no_others { (v w : List ℕ) → is_version v ≡ true → is_version w ≡ true → version_key v ≡ version_key w → version_order v w ≡ Ordering.Equal }
+    ensures by_equals { (v w : List ℕ) → is_version v ≡ true → is_version w ≡ true →
+        version_order v w ≡ Ordering.Equal → version_key v ≡ version_key w }
+    ensures by_no_others { (v w : List ℕ) → is_version v ≡ true → is_version w ≡ true →
+        version_key v ≡ version_key w → version_order v w ≡ Ordering.Equal }
 {}

@@ -6,11 +6,13 @@ use Rattle.install_lift.specs.declared.user_table.Entry.{Entry}
 abbrev pub entry_at : List Entry → ℕ → Entry
 entry_at entries place = slice_index_or entries place (record { user = 0; before = 0 })
 
--- the users along a chain, at most so many; it begins at the entry of which the place is one less, and ends at zero
+-- the users along a chain, of at most a number of entries; the chain begins at the entry whose
+-- place plus one is given, and ends at zero
 unfoldable pub chain : ℕ → List Entry → ℕ → List ℕ
 chain zero entries head = []
 chain (suc most) entries zero = []
-chain (suc most) entries (suc place) = (entry_at entries place).user ∷ chain most entries (entry_at entries place).before
+chain (suc most) entries (suc place) =
+    (entry_at entries place).user ∷ chain most entries (entry_at entries place).before
 
 -- each entry leads to one before it
 abbrev pub Falls : List Entry → Type 0

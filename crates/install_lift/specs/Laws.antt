@@ -3,7 +3,7 @@ use Rattle.std.specs.Prelude.{◌≡◌, ◌↔◌, ℕ, ◌<◌, Bool, List, le
 use Rattle.row_book.specs.{Sets.{NumSet, Is}, Repository.{Repository, Healthy}, Sound.{SoundRepository}, Rounds.{RoundStep, kernel, kernel_class, kernel_steps}}
 use Rattle.install_lift.specs.Lifting.{IsLift, lift_of}
 
--- K is the kernel of R, at some limit and hold, and the trail is its own
+-- K is the kernel of R at some limit and hold, and the trail is its own
 pub record IsKernelBy (R K : Repository) (trail : List RoundStep) : Type 0 where
   pub limit : ℕ
   pub hold : Bool
@@ -12,17 +12,20 @@ pub record IsKernelBy (R K : Repository) (trail : List RoundStep) : Type 0 where
 
 -- the set holds each package whose class is in the other one
 abbrev pub HoldsMembers : ℕ → Bool → Repository → NumSet → NumSet → Type 0
-HoldsMembers limit hold R I T = (p : ℕ) → p < length R.clauses → Is I (kernel_class limit hold R p) → Is T p
+HoldsMembers limit hold R I T = (p : ℕ) → p < length R.clauses →
+    Is I (kernel_class limit hold R p) → Is T p
 
--- a healthy set of the kernel, taken back through its steps, is healthy, and holds each package of each of its classes
+-- a healthy set of the kernel, taken back through its steps, is healthy, and holds each package of
+-- each of its classes
 abbrev pub LiftIsHealthy : Type 0
-LiftIsHealthy = (limit : ℕ) (hold : Bool) (R : Repository) (I T : NumSet) → SoundRepository R → Healthy (kernel limit hold R) I → IsLift (kernel_steps limit hold R) I T →
+LiftIsHealthy = (limit : ℕ) (hold : Bool) (R : Repository) (I T : NumSet) → SoundRepository R →
+    Healthy (kernel limit hold R) I → IsLift (kernel_steps limit hold R) I T →
     Healthy R T × HoldsMembers limit hold R I T
 
--- a set is taken back in one way alone
+-- a set is taken back in only one way
 abbrev pub LiftIsOne : Type 0
 LiftIsOne = (steps : List RoundStep) (I S T : NumSet) → IsLift steps I S → IsLift steps I T → T ≡ S
 
--- and that is what is computed
+-- the set that is taken back is the one that is computed
 abbrev pub LiftIsOf : Type 0
 LiftIsOf = (steps : List RoundStep) (I T : NumSet) → (IsLift steps I T ↔ (T ≡ lift_of steps I))

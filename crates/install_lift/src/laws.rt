@@ -1,12 +1,12 @@
-//! The laws of lifting and of trimming: the functions do nothing, the contract of each is one law.
+//! The laws of lifting and of trimming. The functions do nothing: the contract of each is one law.
 ghost use Rattle.install_lift.specs.{Laws.{LiftIsHealthy, LiftIsOne, LiftIsOf}, Trimming.{TrimIsHealthy, TrimIsOne, TrimIsOf}};
 
-/// A lifted set is healthy, and holds each package of each class that it came from.
+/// A lifted set is healthy, and has each package of each class that it came from.
 pub fn lift_is_healthy()
     ensures { LiftIsHealthy }
 {}
 
-/// A set is lifted in one way alone.
+/// A set is lifted in only one way.
 pub fn lift_is_one()
     ensures { LiftIsOne }
 {}

@@ -1,5 +1,6 @@
-//! Installations from the true classes of a kernel: lifting takes a healthy set of the kernel back to the repository that the
-//! kernel came from, and trimming leaves as few packages as the open needs ask for.
+//! Installations from the true classes of a kernel. Lifting takes a healthy set of the kernel back
+//! to the repository that the kernel came from. Trimming leaves as few packages as the open needs
+//! ask for.
 #![tactic(auto)]
 
 mod laws;

@@ -18,7 +18,7 @@ fn flag_at(flags: &[bool], place: usize) -> bool
     flags.get(place).copied().unwrap_or(false)
 }
 
-/// The members of one set and of the other.
+/// The union of two sets.
 fn union_of(alloc: Global, first: &[bool], second: &[bool]) -> Result<Vec<bool>, AllocError>
     ensures { IfOk result (λ made. flag made.items ≡ union (flag first.now) (flag second.now)) }
 {
@@ -30,7 +30,7 @@ fn union_of(alloc: Global, first: &[bool], second: &[bool]) -> Result<Vec<bool>,
     Ok(made)
 }
 
-/// So many of the flags.
+/// The flags of the first packages.
 fn front_of(alloc: Global, flags: &[bool], size: u32) -> Result<Vec<bool>, AllocError>
     ensures long { IfOk result (λ made. length made.items ≡ size) }
     ensures same { IfOk result (λ made. (n : ℕ) → n < size → flag made.items n ≡ flag flags.now n) }
@@ -42,7 +42,7 @@ fn front_of(alloc: Global, flags: &[bool], size: u32) -> Result<Vec<bool>, Alloc
     Ok(made)
 }
 
-/// Puts up the last of so many flags.
+/// Raises the last of the flags.
 fn put_last(flags: &mut [bool], number: u32)
     requires { flags.old ≡ replicate (number + 1) false }
     ensures { flag flags.new ≡ (λ m. m == number) }
@@ -50,7 +50,7 @@ fn put_last(flags: &mut [bool], number: u32)
     flags[number as usize] = true;
 }
 
-/// The flag of a number alone.
+/// The flags of a set with one number.
 fn only(alloc: Global, number: u32) -> Result<Vec<bool>, AllocError>
     ensures { IfOk result (λ made. flag made.items ≡ (λ m. m == number)) }
 {
@@ -59,7 +59,7 @@ fn only(alloc: Global, number: u32) -> Result<Vec<bool>, AllocError>
     Ok(flags)
 }
 
-/// The flags with one more up.
+/// The flags with one more raised.
 fn put_in(alloc: Global, set: Vec<bool>, number: u32) -> Result<Vec<bool>, AllocError>
     ensures { IfOk result (λ made. flag made.items ≡ plus (flag set.items) number) }
 {
@@ -84,7 +84,7 @@ fn members_of(alloc: Global, class_of: &[u32], set: &[bool]) -> Result<Vec<bool>
         .collect(alloc)
 }
 
-/// The set with the added member, where the package is there and nothing of its clause.
+/// Adds the member to the set, if the package is in it and no member of its clause is.
 fn mend(
     alloc: Global,
     set: Vec<bool>,
@@ -92,7 +92,8 @@ fn mend(
     clause: &[u32],
     added: u32,
 ) -> Result<Vec<bool>, AllocError>
-    ensures { IfOk result (λ made. flag made.items ≡ lift_idle (flag set.items) number clause.now added) }
+    ensures { IfOk result (λ made. flag made.items
+        ≡ lift_idle (flag set.items) number clause.now added) }
 {
     if !is_up(&set, number) {
         return Ok(set);
@@ -112,7 +113,8 @@ fn take_back(
     set: Vec<bool>,
 ) -> Result<Vec<bool>, AllocError>
     requires { SoundStep pool.now step.now }
-    ensures { IfOk result (λ made. IsLiftThrough (step_meaning pool.now step.now) (flag set.items) (flag made.items)) }
+    ensures { IfOk result (λ made.
+        IsLiftThrough (step_meaning pool.now step.now) (flag set.items) (flag made.items)) }
 {
     match step {
         Step::Flat { before } => {
@@ -143,7 +145,8 @@ fn take_all_back(
     classes: &[bool],
 ) -> Result<Vec<bool>, AllocError>
     requires { SoundSteps pool.now steps.now }
-    ensures { IfOk result (λ made. IsLift (trail_meaning pool.now steps.now) (flag classes.now) (flag made.items)) }
+    ensures { IfOk result (λ made.
+        IsLift (trail_meaning pool.now steps.now) (flag classes.now) (flag made.items)) }
 {
     let mut set = Vec::from_slice(alloc, classes)?;
     let mut left = steps.len();
@@ -154,8 +157,8 @@ fn take_all_back(
     Ok(set)
 }
 
-/// A healthy set of the kernel of a book, at whatever limit and hold, taken back through the steps of the kernel: a healthy set
-/// of the book, which holds each package of each given class. It fails only where no memory is found.
+/// A healthy set of the kernel of a book, at some limit and hold, taken back through the steps of
+/// the kernel. It is a healthy set of the book, and has each package of each given class.
 pub fn lift(
     alloc: Global,
     pool: &Pool,
@@ -167,13 +170,18 @@ pub fn lift(
     requires from { Sound pool.now from.now }
     requires to { Sound pool.now to.now }
     requires steps { SoundSteps pool.now trail.now.steps }
-    requires kernel { IsKernelBy (repository_of pool.now from.now) (repository_of pool.now to.now) (trail_meaning pool.now trail.now.steps) }
+    requires kernel { IsKernelBy (repository_of pool.now from.now) (repository_of pool.now to.now)
+        (trail_meaning pool.now trail.now.steps) }
     requires healthy { Healthy (repository_of pool.now to.now) (flag classes.now) }
-    ensures lift { IfOk result (λ set. IsLift (trail_meaning pool.now trail.now.steps) (flag classes.now) (flag set)) }
-    ensures is { IfOk result (λ set. flag set ≡ lift_of (trail_meaning pool.now trail.now.steps) (flag classes.now)) }
+    ensures lift { IfOk result (λ set.
+        IsLift (trail_meaning pool.now trail.now.steps) (flag classes.now) (flag set)) }
+    ensures is { IfOk result (λ set. flag set
+        ≡ lift_of (trail_meaning pool.now trail.now.steps) (flag classes.now)) }
     ensures healthy { IfOk result (λ set. Healthy (repository_of pool.now from.now) (flag set)) }
-    ensures holds { (by : IsKernelBy (repository_of pool.now from.now) (repository_of pool.now to.now) (trail_meaning pool.now trail.now.steps)) →
-        IfOk result (λ set. HoldsMembers by.limit by.hold (repository_of pool.now from.now) (flag classes.now) (flag set)) }
+    ensures holds { (by : IsKernelBy (repository_of pool.now from.now)
+        (repository_of pool.now to.now) (trail_meaning pool.now trail.now.steps)) →
+        IfOk result (λ set. HoldsMembers by.limit by.hold (repository_of pool.now from.now)
+        (flag classes.now) (flag set)) }
     ensures long { IfOk result (λ set. length set ≡ length from.now.rows) }
 {
     let set = take_all_back(alloc, pool, trail.steps.as_slice(), classes)?;

@@ -1,7 +1,7 @@
 //! The greatest set of packages without conflicts that a set serves.
 //!
-//! The greatest served set is found by taking out what is not served. Each package is looked at once, and again only if
-//! something that it names was taken out.
+//! It is a greatest fixed point, found from above by a worklist: what is not served is removed.
+//! Each package is looked at once, and again only if something that it names was removed.
 ghost use Rattle.std.specs.{Prelude.{◌≡◌, ◌∷◌, ◌++◌, ◌<◌, ◌||◌, eqb, true, false, [], IfOk, OnOk, length, replicate, slice_set}, List.{list_any}};
 ghost use Rattle.clause_pool.specs.Interned.{clauses_at, OfPool};
 ghost use Rattle.row_book.specs.{Repository.{clauses_of}, Book.{listed_for, repository_of, Sound}, Flags.{flag}};
@@ -48,7 +48,7 @@ fn is_free(book: &Book, number: u32) -> bool
     book.against(number).len() == 0
 }
 
-/// A flag for each package, up where it has no conflict.
+/// A flag for each package, up if it has no conflict.
 fn free_packages(
     alloc: Global,
     pool: &Pool,
@@ -57,7 +57,8 @@ fn free_packages(
 ) -> Result<Vec<bool>, AllocError>
     requires sound { Sound pool.now book.now }
     ensures long { IfOk result (λ more. length more.items ≡ length book.now.rows) }
-    ensures lowering { IfOk result (λ more. IsLowering (repository_of pool.now book.now) (flag set.now) (flag more.items) 0 (replicate (length book.now.rows) []) []) }
+    ensures lowering { IfOk result (λ more. IsLowering (repository_of pool.now book.now)
+        (flag set.now) (flag more.items) 0 (replicate (length book.now.rows) []) []) }
 {
     let mut more = Vec::new(alloc);
     for number in 0..book.size() {
@@ -70,12 +71,13 @@ fn free_packages(
 fn is_served(pool: &Pool, book: &Book, set: &[bool], more: &[bool], number: u32) -> bool
     requires sound { Sound pool.now book.now }
     requires number { number < length book.now.rows }
-    ensures { result ≡ is_served (flag set.now) (flag more.now) (clauses_of (repository_of pool.now book.now) number) }
+    ensures { result ≡ is_served (flag set.now) (flag more.now)
+        (clauses_of (repository_of pool.now book.now) number) }
 {
     serves(pool, set, more, pool.row(book.row(number)))
 }
 
-/// Puts a package to the users of each number of a clause that is up.
+/// Adds a package to the users of each number of a clause that is up.
 fn put_to_clause(
     more: &[bool],
     clause: &[u32],
@@ -93,7 +95,7 @@ fn put_to_clause(
     Ok(())
 }
 
-/// Puts a package to the users of each number of its clauses that is up.
+/// Adds a package to the users of each number of its clauses that is up.
 fn put_to_row(
     pool: &Pool,
     more: &[bool],
@@ -103,7 +105,8 @@ fn put_to_row(
 ) -> Result<(), AllocError>
     requires of_pool { OfPool pool.now ids.now }
     requires long { length more.now ≡ length table.old }
-    ensures { OnOk result (PutsUser (flag more.now) (clauses_at pool.now ids.now) number table.old table.new) }
+    ensures { OnOk result
+        (PutsUser (flag more.now) (clauses_at pool.now ids.now) number table.old table.new) }
 {
     for id in ids {
         put_to_clause(more, pool.slice(*id), number, table)?;
@@ -111,7 +114,7 @@ fn put_to_row(
     Ok(())
 }
 
-/// Puts a package to the users of each package that it names and that is up.
+/// Adds a package to the users of each package that it names and that is up.
 fn put_user(
     pool: &Pool,
     book: &Book,
@@ -122,12 +125,13 @@ fn put_user(
     requires sound { Sound pool.now book.now }
     requires number { number < length book.now.rows }
     requires long { length more.now ≡ length table.old }
-    ensures { OnOk result (PutsUser (flag more.now) (clauses_of (repository_of pool.now book.now) number) number table.old table.new) }
+    ensures { OnOk result (PutsUser (flag more.now)
+        (clauses_of (repository_of pool.now book.now) number) number table.old table.new) }
 {
     put_to_row(pool, more, pool.row(book.row(number)), number, table)
 }
 
-/// Takes out a package that is not served, and puts its users to the work.
+/// Removes a package that is not served, and appends its users to the work.
 fn take_out(
     more: &mut [bool],
     table: &UserTable,
@@ -143,7 +147,8 @@ fn take_out(
     table.add_users(number, work)
 }
 
-/// Looks at each package once, and takes out those that are not served; puts the others to the users of what they name.
+/// Looks at each package once. Those that are not served are removed; each other one is added to
+/// the users of what it names.
 fn sweep(
     pool: &Pool,
     book: &Book,
@@ -154,8 +159,10 @@ fn sweep(
 ) -> Result<(), AllocError>
     requires sound { Sound pool.now book.now }
     requires long { length more.old ≡ length book.now.rows }
-    requires lowering { IsLowering (repository_of pool.now book.now) (flag set.now) (flag more.old) 0 table.old work.old.items }
-    ensures lowering { OnOk result (IsLowering (repository_of pool.now book.now) (flag set.now) (flag more.new) (length book.now.rows) table.new work.new.items) }
+    requires lowering { IsLowering (repository_of pool.now book.now) (flag set.now)
+        (flag more.old) 0 table.old work.old.items }
+    ensures lowering { OnOk result (IsLowering (repository_of pool.now book.now) (flag set.now)
+        (flag more.new) (length book.now.rows) table.new work.new.items) }
 {
     for number in 0..book.size() {
         if !is_up(more, number) {
@@ -170,7 +177,7 @@ fn sweep(
     Ok(())
 }
 
-/// Takes out what is not served, until all that is left is.
+/// Removes what is not served, until all that is left is served.
 fn lower(
     pool: &Pool,
     book: &Book,
@@ -181,7 +188,8 @@ fn lower(
 ) -> Result<(), AllocError>
     requires sound { Sound pool.now book.now }
     requires long { length more.old ≡ length book.now.rows }
-    requires lowering { IsLowering (repository_of pool.now book.now) (flag set.now) (flag more.old) (length book.now.rows) table.now work.old.items }
+    requires lowering { IsLowering (repository_of pool.now book.now) (flag set.now) (flag more.old)
+        (length book.now.rows) table.now work.old.items }
     ensures { OnOk result (Lifts (repository_of pool.now book.now) (flag set.now) (flag more.new)) }
 {
     while let Some(number) = work.pop() {
@@ -196,7 +204,8 @@ fn lower(
     Ok(())
 }
 
-/// The greatest set of packages without conflicts each of whose clauses is hit by the set and them together.
+/// The greatest set of packages without conflicts that is served: each clause of its members is hit
+/// by the set and them together.
 pub(crate) fn greatest_support(
     alloc: Global,
     pool: &Pool,
@@ -204,7 +213,8 @@ pub(crate) fn greatest_support(
     set: &[bool],
 ) -> Result<Vec<bool>, AllocError>
     requires sound { Sound pool.now book.now }
-    ensures { IfOk result (λ more. Lifts (repository_of pool.now book.now) (flag set.now) (flag more.items)) }
+    ensures { IfOk result (λ more.
+        Lifts (repository_of pool.now book.now) (flag set.now) (flag more.items)) }
 {
     let mut more = free_packages(alloc, pool, book, set)?;
     let mut table = UserTable::new(alloc, book.size())?;

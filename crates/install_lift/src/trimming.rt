@@ -28,14 +28,19 @@ pub(crate) struct Unhit {
     id: ClauseId,
 }
 
-/// The first clause that is not hit, with its place in the row, if those before a place are hit.
+/// The first clause that is not hit, with its place in the row; those before the place `from` are
+/// hit.
 fn first_unhit(pool: &Pool, set: &[bool], ids: &[ClauseId], from: usize) -> Option<Unhit>
     requires of_pool { OfPool pool.now ids.now }
-    requires before { find (is_unhit (flag set.now)) (clauses_at pool.now (take from ids.now)) ≡ None }
-    ensures none { IfNone result (find (is_unhit (flag set.now)) (clauses_at pool.now ids.now) ≡ None) }
-    ensures some { IfSome result (λ found. find (is_unhit (flag set.now)) (clauses_at pool.now ids.now) ≡ Some (clause_at pool.now found.id)) }
+    requires before { find (is_unhit (flag set.now)) (clauses_at pool.now (take from ids.now))
+        ≡ None }
+    ensures none { IfNone result (find (is_unhit (flag set.now)) (clauses_at pool.now ids.now)
+        ≡ None) }
+    ensures some { IfSome result (λ found. find (is_unhit (flag set.now))
+        (clauses_at pool.now ids.now) ≡ Some (clause_at pool.now found.id)) }
     ensures within { IfSome result (λ found. found.id < length pool.now.clauses) }
-    ensures before { IfSome result (λ found. find (is_unhit (flag set.now)) (clauses_at pool.now (take found.place ids.now)) ≡ None) }
+    ensures before { IfSome result (λ found.
+        find (is_unhit (flag set.now)) (clauses_at pool.now (take found.place ids.now)) ≡ None) }
 {
     for k in from..ids.len() {
         let id = ids[k];
@@ -53,7 +58,7 @@ fn first_chosen(chosen: &[bool], clause: &[u32]) -> Option<u32>
     clause.iter().copied().find(|n| is_up(chosen, *n))
 }
 
-/// Puts in the first chosen member of a clause, and answers it.
+/// Adds the first chosen member of a clause, and returns it.
 fn put_first(chosen: &[bool], set: &mut [bool], clause: &[u32]) -> u32
     requires hit { list_any (flag chosen.now) clause.now ≡ true }
     requires long { length set.old ≡ length chosen.now }
@@ -69,7 +74,7 @@ fn put_first(chosen: &[bool], set: &mut [bool], clause: &[u32]) -> u32
     }
 }
 
-/// Puts in what the goals ask for, and puts it to those that wait.
+/// Adds what the goals ask for, to the set and to those that wait.
 fn trim_goals(
     pool: &Pool,
     book: &Book,
@@ -81,10 +86,12 @@ fn trim_goals(
     requires hits { HitsAll (flag chosen.now) goals.now }
     requires long { length set.old ≡ length chosen.now }
     requires waits { (q : ℕ) → is_waiting waiting.old q ≡ flag set.old q }
-    requires trimming { IsTrimming (repository_of pool.now book.now) goals.now (flag chosen.now) (flag set.old) }
+    requires trimming { IsTrimming (repository_of pool.now book.now) goals.now
+        (flag chosen.now) (flag set.old) }
     ensures long { length set.new ≡ length set.old }
     ensures waits { OnOk result ((q : ℕ) → is_waiting waiting.new q ≡ flag set.new q) }
-    ensures trimming { OnOk result (IsTrimming (repository_of pool.now book.now) goals.now (flag chosen.now) (flag set.new)) }
+    ensures trimming { OnOk result
+        (IsTrimming (repository_of pool.now book.now) goals.now (flag chosen.now) (flag set.new)) }
     ensures hit { OnOk result (All (λ g. list_any (flag set.new) g ≡ true) goals.now) }
 {
     for place in 0..goals.count() {
@@ -98,8 +105,9 @@ fn trim_goals(
     Ok(())
 }
 
-/// Puts in what the clauses of those that wait ask for, and of what is put in, until none waits: the least package is looked at
-/// first. No clause is looked at again once it is hit, since nothing is taken out: for each package its place is kept.
+/// Adds what the clauses of those that wait ask for, and what those added ask for, until none
+/// waits. The least package is looked at first. Nothing is removed, so a clause that is hit is not
+/// looked at again: for each package its place is kept.
 fn trim_clauses(
     pool: &Pool,
     book: &Book,
@@ -115,8 +123,10 @@ fn trim_clauses(
     requires long { length set.old ≡ length chosen.now }
     requires waits { (q : ℕ) → is_waiting waiting.old q ≡ flag set.old q }
     requires hit { All (λ g. list_any (flag set.old) g ≡ true) goals.now }
-    requires trimming { IsTrimming (repository_of pool.now book.now) goals.now (flag chosen.now) (flag set.old) }
-    ensures { OnOk result (IsTrim (repository_of pool.now book.now) goals.now (flag chosen.now) (flag set.new)) }
+    requires trimming { IsTrimming (repository_of pool.now book.now) goals.now
+        (flag chosen.now) (flag set.old) }
+    ensures { OnOk result
+        (IsTrim (repository_of pool.now book.now) goals.now (flag chosen.now) (flag set.new)) }
 {
     while let Some(number) = waiting.take_first() {
         let ids = pool.row(book.row(number));
@@ -132,8 +142,8 @@ fn trim_clauses(
     Ok(())
 }
 
-/// A healthy part of the chosen packages that hits every goal: from no package on, the first chosen member of the first open
-/// need is put in, until no need is open. It fails only where no memory is found.
+/// A healthy part of the chosen packages that hits every goal. It begins empty; the first chosen
+/// member of the first open need is added, until no need is open.
 pub fn trim(
     alloc: Global,
     pool: &Pool,
@@ -145,9 +155,12 @@ pub fn trim(
     requires goals { NeedsFit (length book.now.rows) goals.now }
     requires healthy { Healthy (repository_of pool.now book.now) (flag chosen.now) }
     requires hits { HitsAll (flag chosen.now) goals.now }
-    ensures trim { IfOk result (λ set. IsTrim (repository_of pool.now book.now) goals.now (flag chosen.now) (flag set)) }
-    ensures is { IfOk result (λ set. flag set ≡ trim_of (repository_of pool.now book.now) goals.now (flag chosen.now)) }
-    ensures part { IfOk result (λ set. IsHealthyPart (repository_of pool.now book.now) goals.now (flag chosen.now) (flag set)) }
+    ensures trim { IfOk result (λ set.
+        IsTrim (repository_of pool.now book.now) goals.now (flag chosen.now) (flag set)) }
+    ensures is { IfOk result (λ set. flag set
+        ≡ trim_of (repository_of pool.now book.now) goals.now (flag chosen.now)) }
+    ensures part { IfOk result (λ set.
+        IsHealthyPart (repository_of pool.now book.now) goals.now (flag chosen.now) (flag set)) }
     ensures long { IfOk result (λ set. length set ≡ length chosen.now) }
 {
     let mut set = vec![in alloc; false; chosen.len()]?;
@@ -155,7 +168,7 @@ pub fn trim(
     Ok(Listed::of(set))
 }
 
-/// Puts in what goals and clauses ask for.
+/// Adds what goals and clauses ask for.
 fn trim_set(
     alloc: Global,
     pool: &Pool,
@@ -168,9 +181,12 @@ fn trim_set(
     requires healthy { Healthy (repository_of pool.now book.now) (flag chosen.now) }
     requires hits { HitsAll (flag chosen.now) goals.now }
     requires none { set.old ≡ replicate (length chosen.now) false }
-    ensures trim { OnOk result (IsTrim (repository_of pool.now book.now) goals.now (flag chosen.now) (flag set.new)) }
-    ensures is { OnOk result (flag set.new ≡ trim_of (repository_of pool.now book.now) goals.now (flag chosen.now)) }
-    ensures part { OnOk result (IsHealthyPart (repository_of pool.now book.now) goals.now (flag chosen.now) (flag set.new)) }
+    ensures trim { OnOk result
+        (IsTrim (repository_of pool.now book.now) goals.now (flag chosen.now) (flag set.new)) }
+    ensures is { OnOk result (flag set.new
+        ≡ trim_of (repository_of pool.now book.now) goals.now (flag chosen.now)) }
+    ensures part { OnOk result (IsHealthyPart (repository_of pool.now book.now) goals.now
+        (flag chosen.now) (flag set.new)) }
 {
     let mut waiting = Waiting::new(alloc);
     let mut places = vec![in alloc; 0; book.size() as usize]?;

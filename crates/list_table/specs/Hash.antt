@@ -1,11 +1,11 @@
 -- Hashes of lists.
 use Rattle.std.specs.{Prelude.{ℕ, ◌*◌, ◌/◌, ◌%◌, ◌^◌, List, bit_xor}, List.{fold}, Hash.FoldHasher.{initial, write, finish}}
 
--- a hash and one number more
+-- the hash of numbers followed by one more number
 unfoldable pub hash_with : ℕ → ℕ → ℕ
 hash_with hash number = (bit_xor hash number * 0x9e37_79b9_7f4a_7c15) % 2 ^ 64
 
--- numbers, mixed one after another
+-- the hash of numbers in 64 bits
 abbrev pub mixed : List ℕ → ℕ
 mixed numbers = fold hash_with 0x243f_6a88_85a3_08d3 numbers
 

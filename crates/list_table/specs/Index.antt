@@ -1,13 +1,13 @@
--- Indexes: vectors of places in which the number of an entry is found by a walk
--- that begins at a place which its hash names.
+-- An index by linear probing: a vector of places. The number of an entry is found by a walk that
+-- begins at the place given by its hash.
 use Rattle.std.specs.{Prelude.{◌≡◌, ℕ, ◌<◌, ◌≤◌, ◌+◌, ◌-◌, ◌*◌, ◌^◌, ◌⊎◌, List, length, slice_index_or, set, bit_and}, List.{sum_by}}
 use Rattle.std.proofs.Common.{zero, suc}
 
--- the place at which the walk of a hash begins, among so many
+-- the place at which the walk of a hash begins, in an index of this size
 unfoldable pub home : ℕ → ℕ → ℕ
 home hash size = bit_and hash (size - 1)
 
--- a place holds a hash and the number of an entry with one added, or zero where it is empty
+-- a place holds a hash and the number of an entry plus one; in an empty place the latter is zero
 abbrev pub place_at : List (ℕ × ℕ) → ℕ → ℕ × ℕ
 place_at places place = slice_index_or places place (0, 0)
 
@@ -22,13 +22,15 @@ is_free place = one_if_zero place.1
 abbrev pub free : List (ℕ × ℕ) → ℕ
 free places = sum_by is_free places
 
--- a walk over so many places, the first of them behind the last, comes from a start to a place
+-- this number of steps leads from a start to a place; after the last place comes the first
 abbrev pub Reaches : ℕ → ℕ → ℕ → ℕ → Type 0
-Reaches size start steps place = (place < size) × ((place ≡ start + steps) ⊎ (place + size ≡ start + steps))
+Reaches size start steps place =
+    (place < size) × ((place ≡ start + steps) ⊎ (place + size ≡ start + steps))
 
 -- no place before this step of the walk is empty
 abbrev pub NoneFreeBefore : List (ℕ × ℕ) → ℕ → ℕ → Type 0
-NoneFreeBefore places start steps = (k place : ℕ) → k < steps → Reaches (length places) start k place → 0 < (place_at places place).1
+NoneFreeBefore places start steps = (k place : ℕ) → k < steps →
+    Reaches (length places) start k place → 0 < (place_at places place).1
 
 -- the first empty place on a walk
 pub record IsFirstFree (places : List (ℕ × ℕ)) (start place : ℕ) : Type 0 where
@@ -47,7 +49,7 @@ pub record IsFoundFrom (places : List (ℕ × ℕ)) (start hash number : ℕ) : 
   pub names : place_at places place ≡ (hash, number + 1)
   pub filled : NoneFreeBefore places start steps
 
--- an entry, the number with one added, is put at the first empty place on the walk of its hash
+-- an entry, which is the number plus one, is put at the first empty place on the walk of its hash
 pub record Puts (old new : List (ℕ × ℕ)) (hash entry : ℕ) : Type 0 where
   pub place : ℕ
   pub at : IsFirstFree old (home hash (length old)) place
@@ -57,16 +59,17 @@ pub record Puts (old new : List (ℕ × ℕ)) (hash entry : ℕ) : Type 0 where
 -- the other places are empty
 pub record IsIndex (places : List (ℕ × ℕ)) (hashes : List ℕ) : Type 0 where
   pub found : (number : ℕ) → number < length hashes →
-      IsFoundFrom places (home (slice_index_or hashes number 0) (length places)) (slice_index_or hashes number 0) number
+      IsFoundFrom places (home (slice_index_or hashes number 0) (length places))
+      (slice_index_or hashes number 0) number
   pub named : (place : ℕ) → place < length places → 0 < (place_at places place).1 →
       (place_at places place).1 ≤ length hashes
   pub room : free places + length hashes ≡ length places
 
--- none, or a power of two
+-- an index without places, or with a power of two of them
 abbrev pub IsSize : ℕ → Type 0
 IsSize size = (size ≡ 0) ⊎ ((k : ℕ) × (size ≡ 2 ^ k))
 
--- an index of which at least half is empty, and of which the length is a power of two once it has places
+-- an index that is at least half empty and has a fitting size
 pub record IsTable (places : List (ℕ × ℕ)) (hashes : List ℕ) : Type 0 where
   pub index : IsIndex places hashes
   pub half : 2 * length hashes ≤ length places

@@ -2,7 +2,7 @@
 -- Lists that lie in one list, each from a start to an end.
 use Rattle.std.specs.Prelude.{ℕ, ◌≤◌, ◌-◌, List, [], ◌∷◌, map, take, drop}
 
--- what lies from the start to the end
+-- the items from the start of a span to its end
 abbrev pub part : {A : Type 0} → List A → ℕ × ℕ → List A
 part items span = take (span.1 - span.0) (drop span.0 items)
 

@@ -1,7 +1,8 @@
-//! A vector of places in which the numbers of entries are found by their hashes.
+//! A vector of places in which the numbers of lists are found by their hashes.
 //!
-//! It is linear probing (Knuth, The Art of Computer Programming, vol. 3, 6.4). A list is hashed once, and the index grows by
-//! the hashes that it keeps. The hash is fixed, so lists that collide are slow and never wrong.
+//! It is linear probing (Knuth, The Art of Computer Programming, vol. 3, 6.4). A list is hashed
+//! once: the index keeps the hashes, and grows by them. The hash is fixed, so lists made to collide
+//! are found slowly, but never wrongly.
 ghost use Rattle.std.specs.Prelude.{◌≡◌, ℕ, ◌<◌, ◌+◌, ◌^◌, ◌∷◌, ◌++◌, ◌*◌, ◌≤◌, [], List, length, map, vec_len, IfOk, OnOk, OnErr, IfSome, IfNone};
 ghost use Rattle.list_table.specs.{Index.{home, free, IsFirstFree, IsIndex, IsSize, IsTable, Puts}, Lists.{StandsAt}};
 
@@ -9,7 +10,7 @@ use crate::item::Item;
 use crate::spans::Spans;
 use std::alloc::{AllocError, Global};
 
-/// A hash and the number of the entry with one added, or zero where the place is empty.
+/// A hash and the number of the entry plus one. In an empty place the latter is zero.
 pub(crate) type Place = (u32, u32);
 
 /// The place at which the walk of a hash begins.
@@ -40,30 +41,32 @@ fn free_place(places: &[Place], hash: u32) -> usize
     place
 }
 
-/// Puts the next entry in.
+/// Enters the next list at the first empty place on the walk of its hash.
 pub(crate) fn put(places: &mut [Place], hash: u32, number: u32)
     requires room { 0 < free places.old }
     requires fits { number + 1 < 2 ^ 32 }
     ensures len { length places.new ≡ length places.old }
     ensures put { Puts places.old places.new hash (number + 1) }
-    ensures index { (hashes : List ℕ) → length hashes ≡ number → IsIndex places.old hashes → IsIndex places.new (hashes ++ hash ∷ []) }
+    ensures index { (hashes : List ℕ) → length hashes ≡ number → IsIndex places.old hashes →
+        IsIndex places.new (hashes ++ hash ∷ []) }
 {
     let place = free_place(places, hash);
     places[place] = (hash, number + 1);
 }
 
-/// Puts the next entry in.
+/// Enters the next list, as `put` does, in a vector.
 pub(crate) fn put_in(places: &mut Vec<Place>, hash: u32, number: u32)
     requires room { 0 < free places.old.items }
     requires fits { number + 1 < 2 ^ 32 }
     ensures len { vec_len places.new ≡ vec_len places.old }
     ensures put { Puts places.old.items places.new.items hash (number + 1) }
-    ensures index { (hashes : List ℕ) → length hashes ≡ number → IsIndex places.old.items hashes → IsIndex places.new.items (hashes ++ hash ∷ []) }
+    ensures index { (hashes : List ℕ) → length hashes ≡ number → IsIndex places.old.items hashes →
+        IsIndex places.new.items (hashes ++ hash ∷ []) }
 {
     put(places, hash, number);
 }
 
-/// The place of the list with these items.
+/// The number of the list with these items, if there is one.
 pub(crate) fn find_in<T: Item>(
     places: &[Place],
     lists: &Spans<T>,
@@ -96,7 +99,7 @@ pub(crate) fn find_in<T: Item>(
     None
 }
 
-// The first places, or twice as many.
+// Eight places at first, then twice as many.
 fn next_size(size: usize) -> Result<usize, AllocError>
     requires { IsSize size }
     ensures power { IfOk result IsSize }
@@ -112,7 +115,7 @@ fn next_size(size: usize) -> Result<usize, AllocError>
     Ok(twice)
 }
 
-/// Makes room for one list more. Where no memory is found, the index stays as it was.
+/// Makes room for one more list.
 pub(crate) fn make_room<T: Item>(
     places: &mut Vec<Place>,
     lists: &Spans<T>,
@@ -131,10 +134,12 @@ pub(crate) fn make_room<T: Item>(
     Ok(())
 }
 
-/// An index of this size with the same entries. It goes by the hashes that the places keep, and looks at no list.
+/// An index of this size with the same entries. It uses the hashes that the places keep, and reads
+/// no list.
 pub(crate) fn moved_to(alloc: Global, from: &[Place], size: usize) -> Result<Vec<Place>, AllocError>
     requires { length from.now < size }
-    ensures index { IfOk result (λ places. (hashes : List ℕ) → IsIndex from.now hashes → IsIndex places.items hashes) }
+    ensures index { IfOk result (λ places. (hashes : List ℕ) → IsIndex from.now hashes →
+        IsIndex places.items hashes) }
     ensures len { IfOk result (λ places. vec_len places ≡ size) }
 {
     let mut places = vec![in alloc; (0, 0); size]?;

@@ -1,17 +1,18 @@
-//! What the lists of a table are of.
+//! The types of items whose lists a table keeps.
 //!
-//! The multiplier of the hash is 2^64 over the golden ratio (Knuth, vol. 3, 6.4), and the seed is digits of pi.
+//! The multiplier of the hash is 2^64 over the golden ratio (Knuth, vol. 3, 6.4), and the seed is
+//! digits of pi.
 ghost use Rattle.std.specs.Prelude.{◌≡◌, ℕ, ◌↔◌, List, IsTrue};
 ghost use Rattle.list_table.specs.Hash.{hash_of_bytes, hash_of_numbers, hash_with, upper_half};
 
 use std::hash::{FoldHasher, Hasher};
 
-/// The number that the hash of numbers begins with.
+/// The number with which the hash of numbers begins.
 pub const SEED: u64 = 0x243f_6a88_85a3_08d3;
 
 const MULTIPLIER: u64 = 0x9e37_79b9_7f4a_7c15;
 
-/// What lists that are each kept once may be of.
+/// An item: lists of it can be hashed and compared.
 pub trait Item: Copy {
     ghost hash_of: { List Self → ℕ };
 
@@ -40,7 +41,7 @@ impl Item for u32 {
     }
 }
 
-// Bytes are hashed in groups, which takes less than one by one.
+// Bytes are hashed in groups, which is faster than one by one.
 impl Item for u8 {
     ghost hash_of = { hash_of_bytes };
 
@@ -55,7 +56,7 @@ impl Item for u8 {
     }
 }
 
-/// The hash of numbers with one number more behind them, of which `upper_half` is what lists are found by.
+/// The hash of numbers followed by one more number. Lists are found by its `upper_half`.
 pub fn mix(hash: u64, number: u64) -> u64
     ensures { result ≡ hash_with hash number }
 {

@@ -9,5 +9,5 @@ mod table;
 // Lists, each kept once under a number.
 pub use table::ListTable;
 
-// What a list is made of, and how it is hashed.
+// Items, and how lists of them are hashed.
 pub use item::{Item, SEED, mix, upper_half};

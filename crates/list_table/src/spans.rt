@@ -1,11 +1,12 @@
-//! Lists that lie one behind another in one vector.
+//! Lists stored one after another in one vector.
 ghost use Rattle.std.specs.Prelude.{◌≡◌, ◌∷◌, ◌++◌, [], ◌<◌, ◌≤◌, length, slice_index_or, IfOk, OnOk, OnErr};
 ghost use Rattle.list_table.specs.Parts.{part};
 
 use std::alloc::{AllocError, Global};
 use std::marker::Model;
 
-/// So many items at most have places below 2^32; more count as want of memory.
+/// The most items in all, so that each place is below 2^32. A list that does not fit counts as want
+/// of memory.
 const MOST: usize = 4_294_967_295;
 
 /// Lists of items in the order in which they came, all in one vector.
@@ -37,7 +38,7 @@ fn part_of<T>(items: &[T], start: usize, end: usize) -> &[T]
 }
 
 impl<T: Copy> Spans<T> {
-    /// No lists; it takes no memory.
+    /// No lists.
     pub(crate) fn new(alloc: Global) -> Self
         ensures { result ≡ [] }
     {
@@ -47,7 +48,7 @@ impl<T: Copy> Spans<T> {
         }
     }
 
-    /// The same lists.
+    /// A copy of the lists.
     pub(crate) fn copy(&self, alloc: Global) -> Result<Self, AllocError>
         ensures { IfOk result (λ made. made ≡ self.now) }
     {
@@ -73,7 +74,7 @@ impl<T: Copy> Spans<T> {
         part_of(&self.items, start as usize, end as usize)
     }
 
-    /// Puts a list behind the others. Where no memory is found, the lists stay as they were.
+    /// Appends a list.
     pub(crate) fn push(&mut self, list: &[T]) -> Result<(), AllocError>
         ensures ok { OnOk result (self.new ≡ self.old ++ list.now ∷ []) }
         ensures err { OnErr result (self.new ≡ self.old) }

@@ -8,7 +8,8 @@ use crate::spans::Spans;
 use std::alloc::{AllocError, Global};
 use std::marker::Model;
 
-/// So many lists at most have numbers that, with one added, fit into a place of the index; more count as want of memory.
+/// The most lists: the number of each plus one has to fit into a place of the index. More count as
+/// want of memory.
 const MOST: usize = 4_294_967_294;
 
 /// Lists of items in the order in which they came, with an index that finds each by its items.
@@ -32,7 +33,7 @@ impl<T: Item> Model for ListTable<T> {
 }
 
 impl<T: Item> ListTable<T> {
-    /// No lists; it takes no memory.
+    /// No lists.
     pub fn new(alloc: Global) -> Self
         ensures { result ≡ [] }
     {
@@ -42,7 +43,7 @@ impl<T: Item> ListTable<T> {
         }
     }
 
-    /// The same lists with the same index.
+    /// A copy of the lists and of their index.
     pub fn copy(&self, alloc: Global) -> Result<Self, AllocError>
         ensures { IfOk result (λ made. made ≡ self.now) }
     {
@@ -59,12 +60,12 @@ impl<T: Item> ListTable<T> {
         self.lists.count()
     }
 
-    /// What the memory of the table is taken from.
+    /// The allocator of the table.
     pub fn allocator(&self) -> Global {
         *self.places.allocator()
     }
 
-    /// The place of the list with these items, of which this is the hash.
+    /// The place of the list with these items, given their hash.
     pub fn find(&self, hash: u32, items: &[T]) -> Option<u32>
         requires { hash ≡ T.hash_of items.now }
         ensures some { IfSome result (StandsAt items.now self.now) }
@@ -81,7 +82,7 @@ impl<T: Item> ListTable<T> {
         self.lists.at(place)
     }
 
-    /// Puts a list, of which this is the hash, behind the others, and answers its place.
+    /// Appends a list, given its hash, and returns its place.
     pub fn push(&mut self, hash: u32, items: &[T]) -> Result<u32, AllocError>
         requires { hash ≡ T.hash_of items.now }
         ensures place { IfOk result (λ place. place ≡ length self.old) }

@@ -19,6 +19,6 @@ has xs n = list_any (λ m. eqb n m) xs
 abbrev pub Inside : List ℕ → List ℕ → Type 0
 Inside S T = (n : ℕ) → In n S → In n T
 
--- the same, as a test
+-- whether each number of the first list is in the second
 abbrev pub is_inside : List ℕ → List ℕ → Bool
 is_inside S T = list_all (λ n. has T n) S

@@ -31,14 +31,15 @@ pub fn holds_ascending(list: &[u32], number: u32) -> bool
     holds_sorted(list, number)
 }
 
-/// Whether each number of the first list is in the second; the first that is not ends the test.
+/// Whether each number of the first list is in the second. It stops at the first that is not.
 pub fn is_inside(small: &[u32], large: &[u32]) -> bool
     ensures { result ≡ is_inside small.now large.now }
 {
     small.iter().all(|number| holds(large, *number))
 }
 
-/// Whether each number of the first list is in the second, which ascends; the first that is not ends the test.
+/// Whether each number of the first list is in the second, which ascends. It stops at the first
+/// that is not.
 pub fn is_inside_ascending(small: &[u32], large: &[u32]) -> bool
     requires { Ascending large.now }
     ensures { result ≡ is_inside small.now large.now }
@@ -46,7 +47,7 @@ pub fn is_inside_ascending(small: &[u32], large: &[u32]) -> bool
     small.iter().all(|number| holds_ascending(large, *number))
 }
 
-/// Puts the numbers in their order, each once.
+/// Puts the numbers in ascending order, each once.
 pub fn sort_once(numbers: &mut Vec<u32>)
     ensures ascending { Ascending numbers.new.items }
     ensures same { (n : ℕ) → In n numbers.new.items ↔ In n numbers.old.items }

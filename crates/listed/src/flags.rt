@@ -7,7 +7,8 @@ use std::alloc::{AllocError, Global};
 /// The numbers of the flags that are up, ascending.
 pub fn true_numbers(alloc: Global, flags: &[bool]) -> Result<Listed<u32>, AllocError>
     requires { length flags.now < 4294967296 }
-    ensures { IfOk result (λ numbers. numbers ≡ filter (λ n. slice_index_or flags.now n false) (range_with_len 0 (length flags.now))) }
+    ensures { IfOk result (λ numbers. numbers
+        ≡ filter (λ n. slice_index_or flags.now n false) (range_with_len 0 (length flags.now))) }
 {
     let mut numbers = Listed::new(alloc);
     for place in 0..flags.len() {

@@ -1,4 +1,5 @@
-//! The shelf that every crate reaches: vectors that contracts see as lists, and small functions on lists, flags and digits.
+//! What every crate may use: vectors that contracts see as lists, and small functions on lists,
+//! flags and texts.
 #![tactic(auto)]
 
 mod ascending;

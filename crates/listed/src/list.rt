@@ -21,7 +21,7 @@ impl<T> Model for Listed<T> {
 }
 
 impl<T: Drop> Listed<T> {
-    /// The empty list; it takes no memory.
+    /// The empty list.
     pub fn new(alloc: Global) -> Self
         ensures { result ≡ [] }
     {
@@ -30,14 +30,14 @@ impl<T: Drop> Listed<T> {
         }
     }
 
-    /// The list of a vector's items; it takes no memory.
+    /// The list of a vector's items.
     pub fn of(items: Vec<T>) -> Self
         ensures { result ≡ items.items }
     {
         Listed { items }
     }
 
-    /// The items as a vector; it takes no memory.
+    /// The items as a vector.
     pub fn into_vec(self) -> Vec<T>
         ensures { result.items ≡ self }
     {
@@ -45,7 +45,7 @@ impl<T: Drop> Listed<T> {
         items
     }
 
-    /// Puts an item behind the others; where no memory is found, the list stays as it was.
+    /// Appends an item.
     pub fn push(&mut self, item: T) -> Result<(), AllocError>
         ensures ok { OnOk result (self.new ≡ self.old ++ item ∷ []) }
         ensures err { OnErr result (self.new ≡ self.old) }
@@ -54,7 +54,7 @@ impl<T: Drop> Listed<T> {
         Ok(())
     }
 
-    /// Puts the items of another list behind the others; where no memory is found, the list stays as it was.
+    /// Appends the items of another list.
     pub fn append(&mut self, other: Listed<T>) -> Result<(), AllocError>
         ensures ok { OnOk result (self.new ≡ self.old ++ other) }
         ensures err { OnErr result (self.new ≡ self.old) }
@@ -63,7 +63,7 @@ impl<T: Drop> Listed<T> {
         self.items.append(&mut items)
     }
 
-    /// Lends the items in their order; it takes no memory.
+    /// Lends the items in their order.
     pub fn as_slice(&self) -> &[T]
         ensures { result.now ≡ self.now }
     {

@@ -14,7 +14,7 @@ hash_of text = folding.finish (folding.write folding.initial text)
 abbrev pub ends_in : ℕ → List ℕ → Bool
 ends_in n numbers = option_map_or (λ last. last == n) (slice_get numbers (length numbers - 1)) false
 
--- the numbers with one behind them, unless it is the last already
+-- the numbers with one more at the end, unless it is already last
 abbrev pub with_number : ℕ → List ℕ → List ℕ
 with_number n numbers = if ends_in n numbers then numbers else numbers ++ n ∷ []
 
@@ -31,7 +31,8 @@ numbers_under table hash = option_map_or numbers_of (get nat_eq table.lists hash
 abbrev pub HasNone : NumbersByHash → Type 0
 HasNone table = (hash : ℕ) → numbers_under table hash ≡ []
 
--- the hash has the number behind those that it had, and each other hash has those that it had
+-- the number is appended to those of the hash, and each other hash keeps its own
 abbrev pub Puts : NumbersByHash → NumbersByHash → ℕ → ℕ → Type 0
 Puts old new hash number = (other : ℕ) → numbers_under new other
-    ≡ (if eqb other hash then with_number number (numbers_under old other) else numbers_under old other)
+    ≡ (if eqb other hash then with_number number (numbers_under old other)
+    else numbers_under old other)

@@ -6,7 +6,7 @@ use indexmap::IndexMap;
 use std::alloc::{AllocError, Global};
 use std::slice;
 
-/// The numbers under a hash. Most hashes have one, which takes no memory.
+/// The numbers under a hash. Most hashes have one, which is kept without memory of its own.
 #[derive(Drop)]
 pub(crate) enum NumberList {
     One(u32),
@@ -14,7 +14,7 @@ pub(crate) enum NumberList {
 }
 
 impl NumberList {
-    // Lends the numbers; it takes no memory.
+    // Lends the numbers.
     fn as_slice(&self) -> &[u32]
         ensures { result.now ≡ numbers_of self.now }
     {
@@ -25,7 +25,7 @@ impl NumberList {
     }
 }
 
-/// For each hash a list of numbers, which is empty for a hash that has none.
+/// For each hash a list of numbers, which is empty for a hash without numbers.
 #[derive(Drop)]
 pub(crate) struct NumbersByHash {
     lists: IndexMap<u64, NumberList>,
@@ -33,7 +33,7 @@ pub(crate) struct NumbersByHash {
 
 #[tactic(auto, unfolding(crate::specs::Hashed::numbers_under))]
 impl NumbersByHash {
-    /// No hash has a number; it takes no memory.
+    /// No hash has a number.
     pub(crate) fn new(alloc: Global) -> Self
         ensures { HasNone result }
     {
@@ -42,12 +42,13 @@ impl NumbersByHash {
         }
     }
 
-    /// What the memory of the lists is taken from.
+    /// The allocator of the lists.
     pub(crate) fn allocator(&self) -> Global {
         *self.lists.allocator()
     }
 
-    /// Puts a number behind those under a hash, unless it is the last of these already, and answers how many there are now.
+    /// Appends a number to those under a hash if it is not already last, and returns how many there
+    /// are now.
     pub(crate) fn put(&mut self, hash: u64, number: u32) -> Result<usize, AllocError>
         ensures puts { OnOk result (Puts self.old self.new hash number) }
         ensures count { IfOk result (λ count. count ≡ length (numbers_under self.new hash)) }
@@ -62,7 +63,7 @@ impl NumbersByHash {
         }
     }
 
-    /// Lends the numbers under a hash, in the order in which they were put there; it takes no memory.
+    /// Lends the numbers under a hash, in the order in which they came.
     pub(crate) fn numbers(&self, hash: u64) -> &[u32]
         ensures { result.now ≡ numbers_under self.now hash }
     {
@@ -73,9 +74,10 @@ impl NumbersByHash {
     }
 }
 
-// Puts the number behind the others, unless it is the last already, and answers how many there are now.
+// Appends the number if it is not already last, and returns how many there are now.
 fn put_last(alloc: Global, numbers: &mut NumberList, number: u32) -> Result<usize, AllocError>
-    ensures numbers { OnOk result (numbers_of numbers.new ≡ with_number number (numbers_of numbers.old)) }
+    ensures numbers { OnOk result (numbers_of numbers.new
+        ≡ with_number number (numbers_of numbers.old)) }
     ensures count { IfOk result (λ count. count ≡ length (numbers_of numbers.new)) }
 {
     if numbers.as_slice().last() == Some(&number) {
@@ -91,7 +93,7 @@ fn put_last(alloc: Global, numbers: &mut NumberList, number: u32) -> Result<usiz
     Ok(count)
 }
 
-// The numbers with one behind them.
+// A copy of the numbers with one more at the end.
 fn with_one_more(alloc: Global, numbers: &[u32], number: u32) -> Result<Vec<u32>, AllocError>
     ensures { IfOk result (λ more. more.items ≡ numbers.now ++ number ∷ []) }
 {

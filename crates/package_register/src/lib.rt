@@ -1,4 +1,5 @@
-//! A register of what has a name and a version: it finds each by its name, and by its name with an equal version.
+//! A register of what has a name and a version: it finds each by its name, and by its name with an
+//! equal version.
 #![tactic(auto)]
 
 mod hashed;
@@ -54,7 +55,7 @@ mod tests {
         }
     }
 
-    // So many of one name that most are found by a key.
+    // More of one name than are gone through, so most are found by a key.
     fn many(alloc: Global) -> Result<Vec<Thing>, AllocError> {
         let mut things = Vec::new(alloc);
         for place in 0..33 {

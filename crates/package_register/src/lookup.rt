@@ -1,4 +1,4 @@
-//! The things of a list by their names and versions.
+//! Items of a list, found by their names and versions.
 ghost use Rattle.std.specs.{Prelude.{◌≡◌, ◌<◌, ◌++◌, ◌∷◌, [], ℕ, List, length, filter, IfOk, OnOk}, List.{list_any}};
 ghost use Rattle.package_register.specs.{Numbers.{numbers_where, passes_at}, Registers.{has_name, is_version_of, IsRegisterOf}};
 
@@ -20,9 +20,10 @@ impl Register {
         Ok(register)
     }
 
-    /// Puts in the next of a list.
+    /// Adds the next item of a list.
     pub fn add<T: Named>(&mut self, item: &T, number: u32) -> Result<(), AllocError>
-        ensures { OnOk result ((items : List T) → IsRegisterOf T.name_of T.version_of items self.old → number ≡ length items →
+        ensures { OnOk result ((items : List T) →
+            IsRegisterOf T.name_of T.version_of items self.old → number ≡ length items →
             IsRegisterOf T.name_of T.version_of (items ++ item.now ∷ []) self.new) }
     {
         let name = item.name();
@@ -31,7 +32,7 @@ impl Register {
         Ok(())
     }
 
-    /// The places of those that have the name, ascending.
+    /// The places of the items with the name, ascending.
     pub fn named<T: Named>(
         &self,
         alloc: Global,
@@ -39,7 +40,8 @@ impl Register {
         name: &[u8],
     ) -> Result<Vec<u32>, AllocError>
         requires { IsRegisterOf T.name_of T.version_of items.now self.now }
-        ensures { IfOk result (λ found. found.items ≡ numbers_where (has_name T.name_of name.now) items.now) }
+        ensures { IfOk result (λ found. found.items
+            ≡ numbers_where (has_name T.name_of name.now) items.now) }
     {
         let numbers = self.bearers(name);
         let mut found = named_among(alloc, items, numbers, name)?;
@@ -47,7 +49,7 @@ impl Register {
         Ok(found)
     }
 
-    /// The places of those that have the name and an equal version, ascending.
+    /// The places of the items with the name and an equal version, ascending.
     pub fn versioned<T: Named>(
         &self,
         alloc: Global,
@@ -56,9 +58,10 @@ impl Register {
         version: &Version,
     ) -> Result<Vec<u32>, AllocError>
         requires { IsRegisterOf T.name_of T.version_of items.now self.now }
-        ensures { IfOk result (λ found. found.items ≡ numbers_where (is_version_of T.name_of T.version_of name.now version.now) items.now) }
+        ensures { IfOk result (λ found. found.items
+            ≡ numbers_where (is_version_of T.name_of T.version_of name.now version.now) items.now) }
     {
-        // As things are read, most names are new.
+        // As an index is read, most names are new.
         if self.bearers(name).is_empty() {
             return Ok(Vec::new(alloc));
         }
@@ -68,7 +71,7 @@ impl Register {
         Ok(found)
     }
 
-    /// Whether one of them has the name; it takes no memory.
+    /// Whether an item has the name.
     pub fn has_name<T: Named>(&self, items: &[T], name: &[u8]) -> bool
         requires { IsRegisterOf T.name_of T.version_of items.now self.now }
         ensures { result ≡ list_any (has_name T.name_of name.now) items.now }
@@ -78,14 +81,15 @@ impl Register {
     }
 }
 
-// Those of the numbers whose things have the name.
+// Those of the numbers whose items have the name.
 fn named_among<T: Named>(
     alloc: Global,
     items: &[T],
     numbers: &[u32],
     name: &[u8],
 ) -> Result<Vec<u32>, AllocError>
-    ensures { IfOk result (λ found. found.items ≡ filter (passes_at (has_name T.name_of name.now) items.now) numbers.now) }
+    ensures { IfOk result (λ found. found.items
+        ≡ filter (passes_at (has_name T.name_of name.now) items.now) numbers.now) }
 {
     let mut found = Vec::new(alloc);
     for number in numbers {
@@ -96,7 +100,7 @@ fn named_among<T: Named>(
     Ok(found)
 }
 
-// Those of the candidates whose things have the name and an equal version.
+// Those of the candidates whose items have the name and an equal version.
 fn equal_among<T: Named>(
     alloc: Global,
     items: &[T],
@@ -104,7 +108,9 @@ fn equal_among<T: Named>(
     name: &[u8],
     version: &Version,
 ) -> Result<Vec<u32>, AllocError>
-    ensures { IfOk result (λ found. found.items ≡ filter (passes_at (is_version_of T.name_of T.version_of name.now version.now) items.now) (candidates.entry.first.now ++ candidates.entry.others.now)) }
+    ensures { IfOk result (λ found. found.items
+        ≡ filter (passes_at (is_version_of T.name_of T.version_of name.now version.now) items.now)
+        (candidates.entry.first.now ++ candidates.entry.others.now)) }
 {
     let mut found = equal_in(alloc, items, candidates.first, name, version)?;
     let more = equal_in(alloc, items, candidates.others, name, version)?;
@@ -112,7 +118,7 @@ fn equal_among<T: Named>(
     Ok(found)
 }
 
-// Those of the numbers whose things have the name and an equal version.
+// Those of the numbers whose items have the name and an equal version.
 fn equal_in<T: Named>(
     alloc: Global,
     items: &[T],
@@ -120,7 +126,8 @@ fn equal_in<T: Named>(
     name: &[u8],
     version: &Version,
 ) -> Result<Vec<u32>, AllocError>
-    ensures { IfOk result (λ found. found.items ≡ filter (passes_at (is_version_of T.name_of T.version_of name.now version.now) items.now) numbers.now) }
+    ensures { IfOk result (λ found. found.items ≡ filter (passes_at
+        (is_version_of T.name_of T.version_of name.now version.now) items.now) numbers.now) }
 {
     let mut found = Vec::new(alloc);
     for number in numbers {
@@ -131,7 +138,7 @@ fn equal_in<T: Named>(
     Ok(found)
 }
 
-// Whether the thing of one of the numbers has the name.
+// Whether the item of one of the numbers has the name.
 fn is_any_named<T: Named>(items: &[T], numbers: &[u32], name: &[u8]) -> bool
     ensures { result ≡ list_any (passes_at (has_name T.name_of name.now) items.now) numbers.now }
 {
@@ -143,7 +150,7 @@ fn is_any_named<T: Named>(items: &[T], numbers: &[u32], name: &[u8]) -> bool
     false
 }
 
-// Whether there is a thing of that number, and it has the name.
+// Whether there is an item with that number, and it has the name.
 fn is_named_at<T: Named>(items: &[T], number: u32, name: &[u8]) -> bool
     ensures { result ≡ passes_at (has_name T.name_of name.now) items.now number }
 {
@@ -159,9 +166,10 @@ fn is_named<T: Named>(item: &T, name: &[u8]) -> bool
     name == item.name()
 }
 
-// Whether there is a thing of that number, and it has the name and an equal version.
+// Whether there is an item with that number, and it has the name and an equal version.
 fn is_equal_at<T: Named>(items: &[T], number: u32, name: &[u8], version: &Version) -> bool
-    ensures { result ≡ passes_at (is_version_of T.name_of T.version_of name.now version.now) items.now number }
+    ensures { result
+        ≡ passes_at (is_version_of T.name_of T.version_of name.now version.now) items.now number }
 {
     match items.get(number as usize) {
         Some(item) => is_equal(item, name, version),

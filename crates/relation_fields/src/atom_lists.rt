@@ -8,8 +8,8 @@ use std::alloc::{AllocError, Global};
 use std::marker::Model;
 use std::rc::Rc;
 
-/// Atoms in their order: the alternatives of an element, or the elements of `Conflicts` and `Breaks`. Several owners may
-/// share one list, and none of them sees what another puts behind it.
+/// Atoms in their order: the alternatives of an element, or the elements of `Conflicts` and
+/// `Breaks`. Several owners may share one list, and none of them sees what another appends.
 #[derive(Drop)]
 pub struct AtomList {
     // An empty list has no block.
@@ -26,15 +26,15 @@ impl Model for AtomList {
 }
 
 impl AtomList {
-    /// The empty list; it takes no memory.
+    /// The empty list.
     pub fn new() -> Self
         ensures { result ≡ [] }
     {
         AtomList { shared: None }
     }
 
-    /// Puts an atom behind the others; where no memory is found, the list stays as it was. The list is made anew, as other
-    /// owners may share it: `of` takes many atoms at once.
+    /// Appends an atom. The list is made anew, as other owners may share it; `of` takes many atoms
+    /// at once.
     pub fn push(&mut self, alloc: Global, atom: Atom) -> Result<(), AllocError>
         ensures ok { OnOk result (self.new ≡ self.old ++ atom ∷ []) }
         ensures err { OnErr result (self.new ≡ self.old) }
@@ -59,7 +59,7 @@ impl AtomList {
         })
     }
 
-    /// The same list for a further owner; it takes no memory.
+    /// Shares the list with a further owner.
     pub fn share(&self) -> Result<Self, AllocError>
         ensures { IfOk result (λ list. list ≡ self.now) }
     {
@@ -71,7 +71,7 @@ impl AtomList {
         }
     }
 
-    /// Lends the atoms in their order; it takes no memory.
+    /// Lends the atoms in their order.
     pub fn as_slice(&self) -> &[Atom]
         ensures { result.now ≡ self.now }
     {
@@ -82,7 +82,7 @@ impl AtomList {
     }
 }
 
-// The same atoms.
+// A copy of the atoms.
 fn copied(alloc: Global, atoms: &[Atom]) -> Result<Vec<Atom>, AllocError>
     ensures { IfOk result (λ made. made.items ≡ atoms.now) }
 {
@@ -93,7 +93,7 @@ fn copied(alloc: Global, atoms: &[Atom]) -> Result<Vec<Atom>, AllocError>
     Ok(made)
 }
 
-// The same atom.
+// A copy of the atom.
 fn copy_of(alloc: Global, atom: &Atom) -> Result<Atom, AllocError>
     ensures { IfOk result (λ made. made ≡ atom.now) }
 {
@@ -113,7 +113,7 @@ fn copy_of(alloc: Global, atom: &Atom) -> Result<Atom, AllocError>
     })
 }
 
-// The same restriction.
+// A copy of the restriction.
 fn bound_of(alloc: Global, bound: &Bound) -> Result<Bound, AllocError>
     ensures { IfOk result (λ made. made ≡ bound.now) }
 {
@@ -122,7 +122,7 @@ fn bound_of(alloc: Global, bound: &Bound) -> Result<Bound, AllocError>
             op: bound.op,
             version,
         }),
-        // A version's text is well-formed, so only memory can want.
+        // A version's text is well formed, so only memory can be missing.
         Err(_) => Err(AllocError),
     }
 }

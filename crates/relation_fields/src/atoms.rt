@@ -9,7 +9,7 @@ use deb_version::{Bytes, Version, VersionError, is_package_name};
 use listed::{trim, trim_front};
 use std::alloc::{AllocError, Global};
 
-/// The atom that the text says, or nothing where the text is outside the grammar.
+/// The atom that the text says, or nothing if the text is outside the grammar.
 #[tactic(auto, unfolding(crate::specs::Grammar::atom_of))]
 pub(crate) fn read_atom(alloc: Global, text: &[u8]) -> Result<Option<Atom>, AllocError>
     ensures { IfOk result (λ atom. atom ≡ atom_of text.now) }
@@ -32,7 +32,7 @@ pub(crate) fn read_atom(alloc: Global, text: &[u8]) -> Result<Option<Atom>, Allo
     }))
 }
 
-// The name at the front, and what stands behind it.
+// The name at the front, and what follows it.
 #[tactic(auto, unfolding(crate::specs::Grammar::name_at, crate::specs::Grammar::behind_name))]
 fn split_name(text: &[u8]) -> (&[u8], &[u8])
     ensures name { result.0.now ≡ name_at text.now }
@@ -41,7 +41,7 @@ fn split_name(text: &[u8]) -> (&[u8], &[u8])
     split_front(text, ByteKind::Name)
 }
 
-// The qualifier, where a colon stands at the front, and what stands behind it.
+// The qualifier, if there is a colon at the front, and what follows it.
 #[tactic(auto, unfolding(crate::specs::Grammar::qualifier_at, crate::specs::Grammar::behind_qualifier))]
 fn split_qualifier(text: &[u8]) -> (Option<&[u8]>, &[u8])
     ensures qualifier { option_copied result.0 ≡ qualifier_at text.now }
@@ -66,7 +66,7 @@ fn fits_qualifier(qualifier: Option<&[u8]>) -> bool
     }
 }
 
-// A copy of the text, where it is written.
+// A copy of the text, if it is written.
 fn copy_written(alloc: Global, text: Option<&[u8]>) -> Result<Option<Bytes>, AllocError>
     ensures { IfOk result (λ copy. copy ≡ option_copied text.entry) }
 {
@@ -76,7 +76,7 @@ fn copy_written(alloc: Global, text: Option<&[u8]>) -> Result<Option<Bytes>, All
     }
 }
 
-// What stands behind a name: nothing, or a restriction in parentheses.
+// What follows a name: nothing, or a restriction in parentheses.
 #[tactic(auto, unfolding(crate::specs::Grammar::restriction_of))]
 fn read_restriction(alloc: Global, text: &[u8]) -> Result<Option<Option<Bound>>, AllocError>
     ensures { IfOk result (λ bound. bound ≡ restriction_of text.now) }
@@ -93,7 +93,7 @@ fn read_restriction(alloc: Global, text: &[u8]) -> Result<Option<Option<Bound>>,
     }
 }
 
-// What stands between an opening parenthesis at the front and a closing one at the end.
+// What is between an opening parenthesis at the front and a closing one at the end.
 fn strip_parentheses(text: &[u8]) -> Option<&[u8]>
     ensures { option_copied result ≡ in_parentheses text.now }
 {
@@ -112,7 +112,7 @@ fn read_bound(alloc: Global, text: &[u8]) -> Result<Option<Bound>, AllocError>
     }
 }
 
-// The restriction to a version, where the text is one.
+// The restriction to a version, if the text is one.
 fn read_version(alloc: Global, op: Op, text: &[u8]) -> Result<Option<Bound>, AllocError>
     ensures { IfOk result (λ bound. bound ≡ bound_at text.now op) }
 {

@@ -14,20 +14,21 @@ pub trait ElementReader {
     /// What an element says.
     type Said: Drop;
 
-    /// What a text says, or nothing where it is outside the grammar.
+    /// What a text says, or nothing if it is outside the grammar.
     ghost reading: { List ℕ → Option Self.Said };
 
     /// From the first reader to the second, elements that say this were read.
     ghost reads: { Self → List Self.Said → Self → Type 0 };
 
-    /// Reads the text of an element; it fails only where no memory is found.
+    /// Reads the text of an element.
     fn read(&mut self, alloc: Global, element: &[u8]) -> Result<Option<Self::Said>, AllocError>
         ensures said { IfOk result (λ said. said ≡ reading element.now) }
         ensures reads { IfOk result (λ said. reads self.old (option_to_list said) self.new) };
 
     ghost reads_none: { (reader : Self) → reads reader [] reader };
 
-    ghost reads_on: { (first second third : Self) (said more : List Self.Said) → reads first said second → reads second more third → reads first (said ++ more) third };
+    ghost reads_on: { (first second third : Self) (said more : List Self.Said) →
+        reads first said second → reads second more third → reads first (said ++ more) third };
 }
 
 /// Each element is an atom, as in `Conflicts` and `Breaks`.
@@ -120,7 +121,7 @@ fn read_provide(alloc: Global, text: &[u8]) -> Result<Option<Provide>, AllocErro
     }
 }
 
-// The provide that is written as the atom is, where that is one.
+// The provide that is written as the atom is, if that is one.
 fn provide_from(atom: Atom) -> Option<Provide>
     ensures { result ≡ provide_at atom atom.bound }
 {

@@ -11,13 +11,13 @@ use listed::Listed;
 use memchr::memchr_iter;
 use std::alloc::{AllocError, Global};
 
-/// So many elements have their room at once; where a value has more, the list grows as they come.
+/// At most this many elements get their room at once; for more of them the list grows as they come.
 const MOST_AT_ONCE: usize = 1024;
 
 /// Why a relation field was not read.
 #[derive(Clone, Copy, Debug, PartialEq, Eq)]
 pub enum RelationError {
-    /// An element is outside the grammar, and is the first such.
+    /// An element is outside the grammar, and is the first such element.
     Shape {
         /// The number of the element, from 1; elements of white space alone count.
         element: u32,
@@ -37,18 +37,21 @@ impl From<AllocError> for RelationError {
     }
 }
 
-/// Reads the value of `Pre-Depends` or `Depends`: elements between commas, each a list of alternatives.
+/// Reads the value of `Pre-Depends` or `Depends`: elements between commas, each a list of
+/// alternatives.
 ///
 /// Time is linear in the value.
 pub fn parse_needs(alloc: Global, value: &[u8]) -> Result<ElementList, RelationError>
     requires { length value.now < u32.MAX }
     ensures said { IfOk result (λ elements. elements ≡ said_in alternatives_of value.now) }
     ensures accepted { OnOk result (first_outside alternatives_of value.now ≡ None) }
-    ensures shape { IfErr result (OnFaultyElement (λ element. first_outside alternatives_of value.now ≡ Some element)) }
+    ensures shape { IfErr result (OnFaultyElement (λ element.
+        first_outside alternatives_of value.now ≡ Some element)) }
 
-    // The same by how relations are written.
+    // Here by how relations are written.
     ensures spelled { IfOk result (SpellsEach SpellsAlternatives value.now) }
-    ensures fault { IfErr result (OnFaultyElement (IsFirstFaultyElement SpellsAlternatives value.now)) }
+    ensures fault { IfErr result
+        (OnFaultyElement (IsFirstFaultyElement SpellsAlternatives value.now)) }
 {
     read_elements(alloc, &mut NeedReader, value)
 }
@@ -60,9 +63,10 @@ pub fn parse_against(alloc: Global, value: &[u8]) -> Result<AtomList, RelationEr
     requires { length value.now < u32.MAX }
     ensures said { IfOk result (λ atoms. atoms ≡ said_in atom_of value.now) }
     ensures accepted { OnOk result (first_outside atom_of value.now ≡ None) }
-    ensures shape { IfErr result (OnFaultyElement (λ element. first_outside atom_of value.now ≡ Some element)) }
+    ensures shape { IfErr result (OnFaultyElement (λ element. first_outside atom_of value.now
+        ≡ Some element)) }
 
-    // The same by how relations are written.
+    // Here by how relations are written.
     ensures spelled { IfOk result (SpellsEach SpellsAtom value.now) }
     ensures fault { IfErr result (OnFaultyElement (IsFirstFaultyElement SpellsAtom value.now)) }
 {
@@ -77,19 +81,20 @@ pub fn parse_provides(alloc: Global, value: &[u8]) -> Result<ProvideList, Relati
     requires { length value.now < u32.MAX }
     ensures said { IfOk result (λ provides. provides ≡ said_in provide_of value.now) }
     ensures accepted { OnOk result (first_outside provide_of value.now ≡ None) }
-    ensures shape { IfErr result (OnFaultyElement (λ element. first_outside provide_of value.now ≡ Some element)) }
+    ensures shape { IfErr result (OnFaultyElement (λ element. first_outside provide_of value.now
+        ≡ Some element)) }
 
-    // The same by how relations are written.
+    // Here by how relations are written.
     ensures spelled { IfOk result (SpellsEach SpellsProvide value.now) }
     ensures fault { IfErr result (OnFaultyElement (IsFirstFaultyElement SpellsProvide value.now)) }
 {
     read_elements(alloc, &mut ProvideReader, value)
 }
 
-/// Reads the value of a relation field: what the elements between its commas say, or the number of the first that is outside
-/// the grammar.
+/// Reads the value of a relation field: what the elements between its commas say, or the number of
+/// the first that is outside the grammar.
 ///
-/// Time is linear in the value, where it is so in an element.
+/// Time is linear in the value, if the reader's time is linear in an element.
 #[tactic(auto, unfolding(crate::specs::Fields::first_outside, crate::specs::Fields::said_in))]
 pub fn read_elements<T: ElementReader>(
     alloc: Global,
@@ -99,7 +104,8 @@ pub fn read_elements<T: ElementReader>(
     requires { length value.now < u32.MAX }
     ensures said { IfOk result (λ said. said ≡ said_in T.reading value.now) }
     ensures accepted { OnOk result (first_outside T.reading value.now ≡ None) }
-    ensures shape { IfErr result (OnFaultyElement (λ element. first_outside T.reading value.now ≡ Some element)) }
+    ensures shape { IfErr result (OnFaultyElement (λ element. first_outside T.reading value.now
+        ≡ Some element)) }
     ensures reads { IfOk result (λ said. T.reads reader.old said reader.new) }
 {
     let mut said = Listed::of(Vec::with_capacity(alloc, room_for(value))?);
@@ -119,7 +125,8 @@ pub fn read_elements<T: ElementReader>(
     Ok(said)
 }
 
-// Room for the elements of a value. Commas are counted by groups of bytes, which takes less than a list that grows.
+// Room for the elements of a value. Commas are counted by groups of bytes, which is faster than a
+// list that grows.
 fn room_for(value: &[u8]) -> usize {
     memchr_iter(b',', value).count().min(MOST_AT_ONCE - 1) + 1
 }

@@ -5,8 +5,8 @@ ghost use Rattle.relation_fields.specs.Spelling.{Reads, SpellsAlternatives, Spel
 
 use crate::texts::{ByteKind, has_kind};
 
-/// Whether the text is the name of an architecture: lower-case letters, digits and hyphens, of which the first is no
-/// hyphen.
+/// Whether the text is the name of an architecture: lower-case letters, digits and hyphens, and the
+/// first is no hyphen.
 pub fn is_architecture(text: &[u8]) -> bool
     ensures { result ≡ is_architecture text.now }
 {
@@ -30,7 +30,7 @@ fn has_architecture_bytes(text: &[u8]) -> bool
     text.iter().all(|byte| has_kind(*byte, ByteKind::Qualifier))
 }
 
-/// What is read of an element is what it is one way of writing, and each way of writing it is read.
+/// An element is read as what it is one way of writing, and each way of writing it is read.
 pub fn readings_are_spellings()
     ensures atoms { Reads atom_of SpellsAtom }
     ensures alternatives { Reads alternatives_of SpellsAlternatives }

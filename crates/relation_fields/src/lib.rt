@@ -1,4 +1,5 @@
-//! Relations between Debian packages: what a relation field says, and when a package meets an atom of it.
+//! Relations between Debian packages: what a relation field says, and when a package meets an atom
+//! of it.
 #![tactic(auto)]
 
 mod atom_lists;

@@ -8,10 +8,11 @@ use deb_version::{Bytes, Version};
 use std::cmp::Ordering;
 
 impl Atom {
-    /// Whether the package meets the atom, by its own name or by one of its provides; it takes no memory.
+    /// Whether the package meets the atom, by its own name or by one of its provides.
     ///
-    /// A provide without a version never meets an atom with a restriction (Debian Policy 7.5). The qualifiers `any`,
-    /// `native`, `all` and the name of the home are ignored; what has any other matches nothing.
+    /// A provide without a version never meets an atom with a restriction (Debian Policy 7.5). The
+    /// qualifiers `any`, `native`, `all` and the name of the home are ignored; an atom or provide
+    /// with any other matches nothing.
     #[tactic(auto, unfolding(crate::specs::Meeting::meets))]
     pub fn met_by(&self, facts: &PackageFacts, home: &Home) -> bool
         ensures { result ≡ meets self.now facts.now home.now }
@@ -20,7 +21,8 @@ impl Atom {
             && (self.is_met_by_name(facts) || self.is_met_by_provide(facts, home))
     }
 
-    // Whether the package has the atom's name, and a version that fits the restriction if there is one.
+    // Whether the package has the atom's name, and a version that fits the restriction if there is
+    // one.
     fn is_met_by_name(&self, facts: &PackageFacts) -> bool
         ensures { result ≡ is_met_by_name self.now facts.now }
     {
@@ -47,7 +49,8 @@ impl Atom {
             .any(|provide| self.is_provided(provide, home))
     }
 
-    // Whether the provide is of the atom's name, with a version that fits where the atom has a restriction.
+    // Whether the provide is of the atom's name, with a version that fits if the atom has a
+    // restriction.
     fn is_provided(&self, provide: &Provide, home: &Home) -> bool
         ensures { result ≡ is_provided_by self.now home.now provide.now }
     {
@@ -56,7 +59,7 @@ impl Atom {
             && self.allows_provided(&provide.version)
     }
 
-    // Whether the version that is provided fits the restriction; none does where there is one.
+    // Whether the provided version fits the restriction. A missing version fits none.
     fn allows_provided(&self, provided: &Option<Version>) -> bool
         ensures { result ≡ option_map_or (fits_provided provided.now) self.now.bound true }
     {
@@ -80,7 +83,7 @@ impl Bound {
 }
 
 impl Op {
-    // Whether the operator allows versions that stand so to the restriction's.
+    // Whether the operator allows a version, by its order to that of the restriction.
     fn accepts(self, order: Ordering) -> bool
         ensures { result ≡ wants self order }
     {
@@ -104,7 +107,7 @@ fn is_ignored(qualifier: &Option<Bytes>, home: &Home) -> bool
     }
 }
 
-// Whether the qualifier is ignored whatever the home is.
+// Whether the qualifier is ignored for every home.
 fn is_always_ignored(written: &[u8]) -> bool
     ensures { result ≡ is_always_ignored written.now }
 {

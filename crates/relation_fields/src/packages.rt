@@ -3,7 +3,7 @@ use crate::atom_lists::AtomList;
 use crate::relations::{ElementList, ProvideList};
 use deb_version::{Bytes, Named, Version};
 
-/// The common architecture of the packages of an index; an index of `all` alone has none.
+/// The common architecture of the packages of an index; an index with only `all` has none.
 #[derive(Drop)]
 pub struct Home {
     /// The name of the architecture.

@@ -3,7 +3,7 @@ use crate::atom_lists::AtomList;
 use deb_version::{Bytes, Version};
 use listed::Listed;
 
-/// How a version has to stand to that of a restriction.
+/// How a version has to compare to that of a restriction.
 #[derive(Clone, Copy, Debug, PartialEq, Eq)]
 pub enum Op {
     /// `<<`: strictly earlier.
@@ -21,7 +21,7 @@ pub enum Op {
 /// A restriction to some versions, as `(>= 1.2)`.
 #[derive(Drop)]
 pub struct Bound {
-    /// How the versions have to stand to the one below.
+    /// How the versions have to compare to the one below.
     pub op: Op,
     /// The version that is named.
     pub version: Version,
@@ -32,7 +32,7 @@ pub struct Bound {
 pub struct Atom {
     /// The package's name.
     pub name: Bytes,
-    /// The architecture behind the colon, if one is written.
+    /// The architecture after the colon, if one is written.
     pub qualifier: Option<Bytes>,
     /// The restriction, if one is written.
     pub bound: Option<Bound>,
@@ -43,7 +43,7 @@ pub struct Atom {
 pub struct Provide {
     /// The name that is provided.
     pub name: Bytes,
-    /// The architecture behind the colon, if one is written.
+    /// The architecture after the colon, if one is written.
     pub qualifier: Option<Bytes>,
     /// The version that is provided, if one is written.
     pub version: Option<Version>,

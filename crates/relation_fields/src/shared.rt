@@ -4,21 +4,23 @@ ghost use Rattle.relation_fields.specs.Shared.{AreMarked, AreMarked-prop};
 use crate::atom_lists::AtomList;
 use std::alloc::{AllocError, Global};
 
-/// Elements in their order, of which equal ones are kept once: each has the mark of its list of alternatives.
+/// Elements in their order; equal ones are kept once. Each has the mark of its list of
+/// alternatives.
 #[derive(Drop)]
 pub struct SharedElements {
     /// The lists of alternatives, in the order in which they first come.
     pub distinct: Vec<AtomList>,
     /// For each element the place of its list.
     pub marks: Vec<u32>,
-    ghost marked: { AreMarked distinct.items marks.items } by { AreMarked-prop distinct.items marks.items },
+    ghost marked: { AreMarked distinct.items marks.items } by { AreMarked-prop
+        distinct.items marks.items },
 }
 
 impl SharedElements {
     ghost use Rattle.std.specs.Prelude.{◌≡◌, ◌∷◌, ◌++◌, ◌<◌, [], length, slice_index_or, OnOk, OnErr};
     ghost use Rattle.relation_fields.specs.Elements.{elements_of, HasRoom};
 
-    /// No elements; it takes no memory.
+    /// No elements.
     pub fn new(alloc: Global) -> Self
         ensures elements { elements_of result ≡ [] }
         ensures distinct { result.distinct.items ≡ [] }
@@ -29,7 +31,7 @@ impl SharedElements {
         }
     }
 
-    /// Room for one more element; the elements stay.
+    /// Makes room for one more element.
     pub fn reserve(&mut self) -> Result<(), AllocError>
         ensures room { OnOk result (HasRoom self.new) }
         ensures distinct { self.new.distinct.items ≡ self.old.distinct.items }
@@ -43,10 +45,12 @@ impl SharedElements {
         self.marks.reserve(1)
     }
 
-    /// Puts an element behind the others that is none of the lists there. It needs memory only where there is no room.
+    /// Appends a new element, which is none of the lists there. Allocates only if no room was
+    /// reserved.
     pub fn push(&mut self, said: AtomList) -> Result<(), AllocError>
         ensures elements { OnOk result (elements_of self.new ≡ elements_of self.old ++ said ∷ []) }
-        ensures distinct { OnOk result (self.new.distinct.items ≡ self.old.distinct.items ++ said ∷ []) }
+        ensures distinct { OnOk result (self.new.distinct.items
+            ≡ self.old.distinct.items ++ said ∷ []) }
         ensures err { OnErr result (self.new.distinct.items ≡ self.old.distinct.items) }
         ensures full { OnErr result (HasRoom self.old → ⊥) }
     {
@@ -57,10 +61,11 @@ impl SharedElements {
         Ok(())
     }
 
-    /// Puts an element behind the others, whose list has this place.
+    /// Appends an element whose list has this place.
     pub fn push_again(&mut self, place: usize) -> Result<(), AllocError>
         requires { place < length self.old.distinct.items }
-        ensures elements { OnOk result (elements_of self.new ≡ elements_of self.old ++ slice_index_or self.old.distinct.items place [] ∷ []) }
+        ensures elements { OnOk result (elements_of self.new
+            ≡ elements_of self.old ++ slice_index_or self.old.distinct.items place [] ∷ []) }
         ensures distinct { self.new.distinct.items ≡ self.old.distinct.items }
     {
         let Ok(mark) = u32::try_from(place) else {

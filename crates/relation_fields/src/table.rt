@@ -1,6 +1,7 @@
 //! Elements that were read, so that equal ones are read once.
 //!
-//! Their texts are found by a hash in a table that is in one piece, so that an element takes no block of its own.
+//! Their texts are found by a hash in a table that is in one piece, so an element takes no block of
+//! its own.
 ghost use Rattle.std.specs.{Prelude.{◌≡◌, ◌∷◌, ◌++◌, [], Some, IfOk, IfSome, OnOk}, Option.{option_to_list}};
 ghost use Rattle.list_table.specs.Hash.{hash_of_bytes};
 ghost use Rattle.relation_fields.specs.{Elements.{elements_of}, Shared.{none_behind, behind_both}, Grammar.{alternatives_of}};
@@ -13,8 +14,9 @@ use listed::trim_front;
 use std::alloc::{AllocError, Global};
 use std::marker::Model;
 
-/// Each element is a list of alternatives, as for a `NeedReader`. An element that was read before is not read again: its list
-/// is shared. The table keeps which elements were read, in their order.
+/// A reader of elements, each a list of alternatives, as `NeedReader` reads them. An element that
+/// was read before is not read again: its list is shared. The table keeps which elements were read,
+/// in their order.
 #[derive(Drop)]
 pub struct ElementTable {
     texts: ListTable<u8>,
@@ -30,11 +32,12 @@ impl Model for ElementTable {
 
     ghost view = { λ s. elements_of s.read };
 
-    ghost invariant = { λ s. map alternatives_of s.texts ≡ map (λ said. Some said) s.read.distinct.items };
+    ghost invariant = { λ s. map alternatives_of s.texts
+        ≡ map (λ said. Some said) s.read.distinct.items };
 }
 
 impl ElementTable {
-    /// No element was read; it takes no memory.
+    /// A table without elements.
     pub fn new(alloc: Global) -> Self
         ensures { result ≡ [] }
     {
@@ -55,7 +58,8 @@ impl ElementTable {
     // Reads an element whose text was read before, if it was.
     fn read_again(&mut self, hash: u32, text: &[u8]) -> Result<Option<AtomList>, AllocError>
         requires { hash ≡ hash_of_bytes text.now }
-        ensures said { IfOk result (λ found. IfSome found (λ said. alternatives_of text.now ≡ Some said)) }
+        ensures said { IfOk result (λ found.
+            IfSome found (λ said. alternatives_of text.now ≡ Some said)) }
         ensures read { IfOk result (λ found. self.new ≡ self.old ++ option_to_list found) }
     {
         let Some(place) = self.texts.find(hash, text) else {
@@ -66,7 +70,7 @@ impl ElementTable {
         Ok(Some(said))
     }
 
-    // Puts in what the text says.
+    // Adds what the text says.
     fn put(&mut self, hash: u32, text: &[u8], said: AtomList) -> Result<(), AllocError>
         requires hash { hash ≡ hash_of_bytes text.now }
         requires said { alternatives_of text.now ≡ Some said }

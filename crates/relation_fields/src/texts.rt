@@ -24,7 +24,7 @@ pub(crate) fn is_white(text: &[u8]) -> bool
     text.iter().all(|byte| is_white_byte(*byte))
 }
 
-/// The longest front of bytes of the kind, and what stands behind it.
+/// The longest front of bytes of the kind, and what follows it.
 pub(crate) fn split_front(text: &[u8], kind: ByteKind) -> (&[u8], &[u8])
     ensures front { result.0.now ≡ take_while (is_of_kind kind) text.now }
     ensures behind { result.1.now ≡ drop (prefix_len (is_of_kind kind) text.now) text.now }
@@ -57,7 +57,7 @@ pub(crate) fn has_kind(byte: u8, kind: ByteKind) -> bool
     }
 }
 
-/// What stands behind the byte, where the text begins with it.
+/// The text after the byte, if the text begins with it.
 pub(crate) fn strip_first(text: &[u8], byte: u8) -> Option<&[u8]>
     ensures { option_copied result ≡ behind_byte byte text.now }
 {
@@ -67,7 +67,7 @@ pub(crate) fn strip_first(text: &[u8], byte: u8) -> Option<&[u8]>
     Some(&text[1..])
 }
 
-/// What stands before the byte, where the text ends with it.
+/// The text before the byte, if the text ends with it.
 pub(crate) fn strip_last(text: &[u8], byte: u8) -> Option<&[u8]>
     ensures { option_copied result ≡ before_byte byte text.now }
 {
@@ -77,7 +77,7 @@ pub(crate) fn strip_last(text: &[u8], byte: u8) -> Option<&[u8]>
     Some(&text[..text.len() - 1])
 }
 
-/// The piece before the first such byte, and what stands behind that byte, where there is one.
+/// The text before the first such byte, and after it if there is one.
 pub(crate) fn cut(text: &[u8], byte: u8) -> (&[u8], Option<&[u8]>)
     ensures { pieces byte text.now ≡ result.0.now ∷ pieces_left byte (option_copied result.1) }
 {
@@ -87,7 +87,7 @@ pub(crate) fn cut(text: &[u8], byte: u8) -> (&[u8], Option<&[u8]>)
     }
 }
 
-// The first place at which the byte stands.
+// The place of the first such byte.
 fn place_of(text: &[u8], byte: u8) -> Option<usize>
     ensures { result ≡ position (λ x. x == byte) text.now }
 {

@@ -3,7 +3,7 @@
 use Rattle.std.specs.{Prelude.{◌≡◌, ℕ, ◌+◌, ◌<◌, ◌≤◌, Bool, true, false, ◌&&◌, List, [], ◌∷◌, reverse, slice_index_or}, List.{before_first}}
 use Rattle.stanza_reader.specs.Lines.{is_line_feed, is_blank}
 
--- whether the last line of a text, what stands behind its last line feed, is blank
+-- whether the last line of a text, which follows its last line feed, is blank
 abbrev pub is_last_blank : List ℕ → Bool
 is_last_blank text = is_blank (before_first is_line_feed (reverse text))
 

@@ -12,7 +12,9 @@ pub record IsBuilt (building : Building) : Type 0 where
 -- This fact has one proof at most, so that a value may keep it.
 pub IsBuilt-prop : (building : Building) → IsProp (IsBuilt building)
 IsBuilt-prop building =
-    let named : IsProp (IsBuiltFrom building.packages building.names) = IsBuiltFrom-prop building.packages building.names in
-    let noted : IsProp (building.elements ≡ needs_of_all building.packages) = needs-prop building.elements building.packages in
+    let named : IsProp (IsBuiltFrom building.packages building.names) =
+    IsBuiltFrom-prop building.packages building.names in
+    let noted : IsProp (building.elements ≡ needs_of_all building.packages) =
+    needs-prop building.elements building.packages in
     let bools : IsSet Bool = Coded-set coded_bool in
     hlevel (named, noted, bools)

@@ -13,7 +13,8 @@ is_all architecture = bytes_eq architecture (codes "all")
 
 -- the architecture of a stanza, unless that is `all`; a missing one is read as `all`
 unfoldable pub architecture_of : RawStanza → Option (List ℕ)
-architecture_of stanza = option_and_then (λ field. if is_all field.value then None else Some field.value) (field_of Architecture stanza)
+architecture_of stanza = option_and_then (λ field. if is_all field.value then None
+    else Some field.value) (field_of Architecture stanza)
 
 -- what a stanza says of its package; a missing relation field says nothing
 unfoldable pub facts_of : RawStanza → PackageFacts
@@ -22,15 +23,18 @@ facts_of stanza = record {
   name = value_of Package stanza;
   version = value_of Version stanza;
   is_arch_dependent = is_some (architecture_of stanza);
-  needs = said_in alternatives_of (value_of PreDepends stanza) ++ said_in alternatives_of (value_of Depends stanza);
+  needs = said_in alternatives_of (value_of PreDepends stanza)
+      ++ said_in alternatives_of (value_of Depends stanza);
   against = said_in atom_of (value_of Conflicts stanza) ++ said_in atom_of (value_of Breaks stanza);
   provides = said_in provide_of (value_of Provides stanza);
 }
 
--- the same name, and versions that compare as equal
+-- two packages have the same name, and versions that compare as equal
 abbrev pub is_same_package : PackageFacts → PackageFacts → Bool
-is_same_package one other = bytes_eq one.name other.name && is_eq (version_order one.version other.version)
+is_same_package one other =
+    bytes_eq one.name other.name && is_eq (version_order one.version other.version)
 
--- each package has a name and a version of their grammars
+-- the name and the version of each package are in their grammars
 abbrev pub AreNamedPackages : List PackageFacts → Type 0
-AreNamedPackages packages = (facts : PackageFacts) → In facts packages → (is_name facts.name ≡ true) × (is_version facts.version ≡ true)
+AreNamedPackages packages = (facts : PackageFacts) → In facts packages →
+    (is_name facts.name ≡ true) × (is_version facts.version ≡ true)

@@ -2,11 +2,11 @@
 use Rattle.std.specs.Prelude.{ℕ, Bool, List}
 use Rattle.repo_model.specs.{Feeding.{is_spent, StandsFor}, declared.feed.SuiteFeed.{SuiteFeed}}
 
--- how many bytes it has taken
+-- how many bytes the feed has taken
 abbrev pub taken_of : SuiteFeed → ℕ
 taken_of feed = feed.taken
 
--- it stands for a text, where this is what it has taken
+-- the text is what the feed has taken
 abbrev pub FeedStandsFor : SuiteFeed → List ℕ → Type 0
 FeedStandsFor feed text = StandsFor feed.reading text
 

@@ -20,7 +20,7 @@ kind_place Status = 8
 abbrev pub is_kind : FieldKind → FieldKind → Bool
 is_kind kind other = kind_place other == kind_place kind
 
--- the field of the kind, where there is one
+-- the field of the kind, if there is one
 abbrev pub field_among : FieldKind → List RawField → Option RawField
 field_among kind fields = find (λ field. is_kind kind field.kind) fields
 

@@ -1,14 +1,16 @@
--- The first fault of an index. Each stanza is checked in this order, and each of these is a fault of it:
---   - 200,000 stanzas or more stand before it;
---   - a line has a bad shape, the first of which is named;
---   - a field line has the name of an earlier one, the first of which is named;
+-- The first fault of an index. Each stanza is checked in this order, and each of these is a fault:
+--   - 200,000 stanzas or more come before it;
+--   - a line has a bad shape; the first such line is named;
+--   - a field line has the name of an earlier one; the first such line is named;
 --   - there is no field `Package`, and then no field `Version`;
---   - a value is bad: that of `Package`, of `Version`, of `Architecture`, and then an element of `Pre-Depends`, of
---     `Depends`, of `Conflicts`, of `Breaks`, of `Provides`; a field that is not there has no bad value;
---   - an earlier stanza has the same name and an equal version, the first of which is named;
---   - it has a field `Architecture` whose value is not `all`, and differs from that of the first earlier stanza that has
---     such a field, where there is one.
--- The first stanza with a fault decides. Bad shapes and repeated names are told where the stanza is read.
+--   - a value is bad: that of `Package`, of `Version`, of `Architecture`, and then an element of
+--     `Pre-Depends`, of `Depends`, of `Conflicts`, of `Breaks`, of `Provides`; a field that is not
+--     there has no bad value;
+--   - an earlier stanza has the same name and an equal version; the first such stanza is named;
+--   - the value of its field `Architecture` is not `all`, and differs from that of the first
+--     earlier stanza with such a value, if there is one.
+-- The first stanza with a fault decides. `stanza_reader` says which shapes are bad, and which names
+-- are repeated.
 use Rattle.std.specs.Prelude.{ℕ, Bool, true, nat_le, ◌||◌, if◌then◌else◌, List, [], ◌∷◌, Option, Some, None, Result, Ok, Err, map, find, take, is_some, length}
 use Rattle.std.specs.{List.{enumerate_from, filter_map}, Option.{option_map, option_map_or, option_and_then, option_or}, Result.{result_ok}, Str.{bytes_eq}}
 use Rattle.deb_version.specs.{Names.{is_name}, Grammar.{is_version}}
@@ -34,16 +36,20 @@ missing kind fault stanza = if is_some (field_of kind stanza) then None else Som
 abbrev pub unless_good : (List ℕ → Bool) → (ℕ → IndexFault) → RawField → Option IndexFault
 unless_good is_good fault field = if is_good field.value then None else Some (fault field.line)
 
--- the same, of the stanza's field of the kind, where there is one
-abbrev pub bad_value : FieldKind → (List ℕ → Bool) → (ℕ → IndexFault) → RawStanza → Option IndexFault
-bad_value kind is_good fault stanza = option_and_then (unless_good is_good fault) (field_of kind stanza)
+-- the fault of the stanza's field of the kind, if there is one and its value fails the test
+abbrev pub bad_value : FieldKind → (List ℕ → Bool) → (ℕ → IndexFault) →
+    RawStanza → Option IndexFault
+bad_value kind is_good fault stanza =
+    option_and_then (unless_good is_good fault) (field_of kind stanza)
 
--- the fault of a relation field with an element outside the grammar, the first of which is named
+-- the fault of a relation field with elements outside the grammar: it names the first of them
 abbrev pub unless_said : {X : Type 0} → (List ℕ → Option X) → RawField → Option IndexFault
 unless_said one field = option_map (BadRelation field.line) (first_outside one field.value)
 
--- the same, of the stanza's field of the kind, where there is one
-abbrev pub bad_relation : {X : Type 0} → FieldKind → (List ℕ → Option X) → RawStanza → Option IndexFault
+-- the fault of the stanza's relation field of the kind, if there is one and it has an element
+-- outside the grammar
+abbrev pub bad_relation : {X : Type 0} → FieldKind → (List ℕ → Option X) →
+    RawStanza → Option IndexFault
 bad_relation kind one stanza = option_and_then (unless_said one) (field_of kind stanza)
 
 -- a field is missing
@@ -70,7 +76,8 @@ own_fault stanza = option_or (presence_fault stanza) (value_fault stanza)
 
 -- an earlier stanza is the same package, among the packages of the stanzas before this one
 unfoldable pub duplicate_fault : List PackageFacts → RawStanza → Option IndexFault
-duplicate_fault before stanza = option_map (λ first. Duplicate first.line stanza.line) (find (is_same_package (facts_of stanza)) before)
+duplicate_fault before stanza = option_map (λ first.
+    Duplicate first.line stanza.line) (find (is_same_package (facts_of stanza)) before)
 
 -- the common architecture of some stanzas: that of the first that has one other than `all`
 unfoldable pub home_of : List RawStanza → Option (List ℕ)
@@ -80,15 +87,20 @@ home_of stanzas = first_present (map architecture_of stanzas)
 abbrev pub is_at_home : Option (List ℕ) → List ℕ → Bool
 is_at_home home architecture = option_map_or (bytes_eq architecture) home true
 
--- another architecture, with the common one of the stanzas before this one
+-- an architecture other than the common one of the stanzas before this one
 unfoldable pub mixed_fault : Option (List ℕ) → RawStanza → Option IndexFault
-mixed_fault home stanza = option_and_then (λ field. if is_all field.value || is_at_home home field.value then None else Some (Mixed field.line)) (field_of Architecture stanza)
+mixed_fault home stanza =
+    option_and_then (λ field. if is_all field.value || is_at_home home field.value then None
+    else Some (Mixed field.line)) (field_of Architecture stanza)
 
--- the fault of a stanza that was read, with the packages and the common architecture of the stanzas before this one
+-- the fault of a stanza that was read, with the packages and the common architecture of the stanzas
+-- before this one
 abbrev pub stanza_fault : List PackageFacts → Option (List ℕ) → RawStanza → Option IndexFault
-stanza_fault before home stanza = first_present (own_fault stanza ∷ duplicate_fault before stanza ∷ mixed_fault home stanza ∷ [])
+stanza_fault before home stanza =
+    first_present (own_fault stanza ∷ duplicate_fault before stanza ∷ mixed_fault home stanza ∷ [])
 
--- the fault of what is read of a stanza, in its lines or else in the stanza, with the stanzas before it
+-- the fault of what is read of a stanza, in its lines or else in the stanza, with the stanzas
+-- before it
 abbrev pub reading_fault : List RawStanza → Result RawStanza StanzaFault → Option IndexFault
 reading_fault before (Ok stanza) = stanza_fault (map facts_of before) (home_of before) stanza
 reading_fault before (Err fault) = Some (Stanza fault)
@@ -97,12 +109,17 @@ reading_fault before (Err fault) = Some (Stanza fault)
 abbrev pub stanzas_in : List (Result RawStanza StanzaFault) → List RawStanza
 stanzas_in all = filter_map result_ok all
 
--- a stanza too many, or else the fault of what is read of it, with what is read of the stanzas before this one
-abbrev pub fault_behind : List (Result RawStanza StanzaFault) → Result RawStanza StanzaFault → Option IndexFault
-fault_behind before reading = if nat_le most_packages (length before) then Some TooMany else reading_fault (stanzas_in before) reading
+-- a stanza too many, or else the fault of what is read of it, with what is read of the stanzas
+-- before this one
+abbrev pub fault_behind : List (Result RawStanza StanzaFault) →
+    Result RawStanza StanzaFault → Option IndexFault
+fault_behind before reading = if nat_le most_packages (length before) then Some TooMany
+    else reading_fault (stanzas_in before) reading
 
--- the faults of the stanzas from the n-th on, counted from 0, each with all before it among the stanzas of the index
-abbrev pub faults_from : List (Result RawStanza StanzaFault) → ℕ → List (Result RawStanza StanzaFault) → List (Option IndexFault)
+-- the faults of the stanzas from the n-th on, counted from 0, each with all before it among the
+-- stanzas of the index
+abbrev pub faults_from : List (Result RawStanza StanzaFault) → ℕ →
+    List (Result RawStanza StanzaFault) → List (Option IndexFault)
 faults_from all n more = map (λ e. fault_behind (take e.0 all) e.1) (enumerate_from n more)
 
 -- the fault of the first stanza that has one

@@ -4,7 +4,7 @@ use Rattle.deb_version.specs.declared.versions.VersionError.{VersionError}
 use Rattle.deb_version.specs.declared.versions.VersionError.TheVariants.{Shape as BadVersion, Memory as NoMemory}
 use Rattle.repo_model.specs.{declared.goals.GoalError.{GoalError}, declared.goals.GoalError.TheVariants.{Shape, Memory}}
 
--- the fact, where a word was refused for its shape
+-- the fact, if a word was refused for its shape
 abbrev pub OnShape : Type 0 → GoalError → Type 0
 OnShape P Shape = P
 OnShape P Memory = ⊤

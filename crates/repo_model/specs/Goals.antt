@@ -1,6 +1,6 @@
--- Goals: a name of packages, or a name and a version, written as for apt-get(8) with an equals sign between them; here a version
--- stands for all that compare as equal. What packages a goal names, and when one package for each of some goals can be
--- installed together.
+-- Goals: a name of packages, or a name and a version, written as for apt-get(8) with an equals sign
+-- between them. Here a version stands for all that compare as equal. What packages a goal names,
+-- and when one package for each of some goals can be installed together.
 use Rattle.std.specs.Prelude.{◌≡◌, ℕ, Bool, true, ◌&&◌, ◌==◌, if◌then◌else◌, List, Option, Some, None, map, filter}
 use Rattle.std.specs.{List.{list_any, before_first, after_first}, Option.{option_map_or}, Ordering.{is_eq}, Str.{bytes_eq}}
 use Rattle.deb_version.specs.{Grammar.{is_version}, Names.{is_name}, Order.{version_order}}
@@ -27,15 +27,19 @@ goal_of_name name = if is_name name then Some (any_version name) else None
 
 -- a package name, and a version in the grammar
 abbrev pub goal_of_parts : List ℕ → List ℕ → Option Goal
-goal_of_parts name version = if is_name name && is_version version then Some (one_version name version) else None
+goal_of_parts name version =
+    if is_name name && is_version version then Some (one_version name version) else None
 
--- the goal that a word is, cut at its first equals sign where it has one
+-- the goal that a word is, cut at its first equals sign if it has one
 unfoldable pub goal_of : List ℕ → Option Goal
-goal_of word = if list_any is_equals word then goal_of_parts (before_first is_equals word) (after_first is_equals word) else goal_of_name word
+goal_of word = if list_any is_equals word
+    then goal_of_parts (before_first is_equals word) (after_first is_equals word)
+    else goal_of_name word
 
--- the version compares as equal to the goal's, where the goal has one
+-- the version compares as equal to the goal's, if the goal has one
 abbrev pub is_of_version : Option (List ℕ) → PackageFacts → Bool
-is_of_version wanted facts = option_map_or (λ version. is_eq (version_order facts.version version)) wanted true
+is_of_version wanted facts =
+    option_map_or (λ version. is_eq (version_order facts.version version)) wanted true
 
 -- the package has the goal's name, and its version
 abbrev pub is_named_by : Goal → PackageFacts → Bool
@@ -43,7 +47,8 @@ is_named_by goal facts = bytes_eq goal.name facts.name && is_of_version goal.ver
 
 -- the numbers of the packages that a goal names, ascending
 abbrev pub packages_named : List PackageFacts → Goal → List ℕ
-packages_named packages goal = filter (λ n. is_named_by goal (stanza_at packages n)) (packages_of packages)
+packages_named packages goal =
+    filter (λ n. is_named_by goal (stanza_at packages n)) (packages_of packages)
 
 -- the names of packages in the order of their bytes, each once
 abbrev pub names_in : List PackageFacts → List (List ℕ)
@@ -55,8 +60,9 @@ pub record HasOneFor (stanzas : List PackageFacts) (I : NumSet) (goal : Goal) : 
   pub member : Is I by
   pub named : is_named_by goal (stanza_at stanzas by) ≡ true
 
--- goals are co-installable where some healthy set of stanzas has a package for each of them
-pub record CoinstGoals (home : Home) (stanzas : List PackageFacts) (goals : List Goal) : Type 0 where
+-- goals are co-installable if some healthy set of stanzas has a package for each of them
+pub record CoinstGoals (home : Home) (stanzas : List PackageFacts)
+    (goals : List Goal) : Type 0 where
   pub whole : NumSet
   pub healthy : HealthyStanzas home stanzas whole
   pub serves : (goal : Goal) → In goal goals → HasOneFor stanzas whole goal

@@ -4,9 +4,11 @@ use Rattle.relation_fields.specs.{declared.packages.Home.{Home}, declared.packag
 use Rattle.row_book.specs.{Repository.{Healthy}, Sets.{NumSet}, Sound.{BetweenPackages, SoundClauses}}
 use Rattle.repo_model.specs.{Goals.{names_in, packages_named, CoinstGoals}, declared.goals.Goal.{Goal}, Repository.{suite_repository}, Stanzas.{HealthyStanzas}}
 
--- for every set of stanza numbers: healthy on the stanzas exactly where healthy in their repository
+-- every set of stanza numbers is healthy on the stanzas exactly if it is healthy in their
+-- repository
 abbrev pub KeepsHealth : Home → List PackageFacts → Type 0
-KeepsHealth home stanzas = (I : NumSet) → (HealthyStanzas home stanzas I ↔ Healthy (suite_repository home stanzas) I)
+KeepsHealth home stanzas =
+    (I : NumSet) → (HealthyStanzas home stanzas I ↔ Healthy (suite_repository home stanzas) I)
 
 -- the clauses of the repository are ascending, and they and its conflicts are of packages
 pub record IsOfPackages (home : Home) (stanzas : List PackageFacts) : Type 0 where
@@ -17,10 +19,11 @@ pub record IsOfPackages (home : Home) (stanzas : List PackageFacts) : Type 0 whe
 abbrev pub but_line : PackageFacts → PackageFacts
 but_line facts = record facts { line = 0 }
 
--- stanzas that differ in the numbers of their lines alone have one repository, the same names, and for each goal the same
--- packages; goals are co-installable in both or in none
+-- Stanzas that differ only in the numbers of their lines have one repository, the same names, and
+-- for each goal the same packages. Goals are co-installable in both or in none.
 pub record IgnoresLines (home : Home) (stanzas others : List PackageFacts) : Type 0 where
   pub repository : suite_repository home stanzas ≡ suite_repository home others
   pub names : names_in stanzas ≡ names_in others
   pub goals : (goal : Goal) → packages_named stanzas goal ≡ packages_named others goal
-  pub verdicts : (goals : List Goal) → CoinstGoals home stanzas goals ↔ CoinstGoals home others goals
+  pub verdicts : (goals : List Goal) → CoinstGoals home stanzas goals
+      ↔ CoinstGoals home others goals

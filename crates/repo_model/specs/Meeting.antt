@@ -1,5 +1,5 @@
 -- for the bodies of this crate alone
--- The packages that an atom is met by.
+-- The packages that meet an atom.
 use Rattle.std.specs.Prelude.{ℕ, List}
 use Rattle.relation_fields.specs.{Meeting.{meets}, declared.packages.Home.{Home}, declared.packages.PackageFacts.{PackageFacts}, declared.relations.Atom.{Atom}}
 use Rattle.package_register.specs.Numbers.{numbers_where}

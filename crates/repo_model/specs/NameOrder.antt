@@ -9,8 +9,10 @@ name_at names place = slice_index_or names place []
 
 -- no name comes before an earlier one
 abbrev pub Rising : List (List ℕ) → Type 0
-Rising names = (i j : ℕ) → i ≤ j → j < length names → comes_before (name_at names j) (name_at names i) ≡ false
+Rising names = (i j : ℕ) → i ≤ j → j < length names →
+    comes_before (name_at names j) (name_at names i) ≡ false
 
--- the name at a place stands in front of it too
+-- whether the name at a place is also at the place before it
 abbrev pub is_repeated : List (List ℕ) → ℕ → Bool
-is_repeated names place = nat_lt 0 place && bytes_eq (name_at names (place - 1)) (name_at names place)
+is_repeated names place =
+    nat_lt 0 place && bytes_eq (name_at names (place - 1)) (name_at names place)

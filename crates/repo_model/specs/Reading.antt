@@ -10,12 +10,14 @@ abbrev pub lines_fault : Result RawStanza StanzaFault → Option IndexFault
 lines_fault (Ok stanza) = None
 lines_fault (Err fault) = Some (Stanza fault)
 
--- a stanza behind so many others is one too many, or else its lines have a fault
+-- a stanza after a number of others is one too many, or else its lines have a fault
 abbrev pub shape_fault : ℕ → Result RawStanza StanzaFault → Option IndexFault
-shape_fault before reading = if nat_le most_packages before then Some TooMany else lines_fault reading
+shape_fault before reading =
+    if nat_le most_packages before then Some TooMany else lines_fault reading
 
--- a stanza is next, and what is read behind it follows
-pub record GoesOn (bytes : List ℕ) (at : Place) (before : ℕ) (stanza : RawStanza) (after : Place) : Type 0 where
+-- a stanza is next, and what is read after it follows
+pub record GoesOn (bytes : List ℕ) (at : Place) (before : ℕ) (stanza : RawStanza)
+    (after : Place) : Type 0 where
   pub room : before < most_packages
   pub next : readings_at bytes at ≡ Ok stanza ∷ readings_at bytes after
   pub behind : IsBehind bytes at after

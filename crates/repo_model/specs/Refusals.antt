@@ -3,7 +3,7 @@ use Rattle.std.specs.Prelude.{◌≡◌, ⊤, Bool, true, false, Option, Some, N
 use Rattle.repo_model.specs.declared.fault.IndexFault.{IndexFault}
 use Rattle.repo_model.specs.declared.fault.IndexFault.TheVariants.{Stanza, MissingPackage, MissingVersion, BadPackage, BadVersion, BadArchitecture, BadRelation, Duplicate, Mixed, TooMany, Memory}
 
--- a fact for each fault of an index, and nothing for want of memory
+-- a fact for each fault of an index, and none for want of memory
 abbrev pub UnlessMemory : IndexFault → Type 0 → Type 0
 UnlessMemory (Stanza fault) P = P
 UnlessMemory (MissingPackage line) P = P
@@ -21,7 +21,7 @@ UnlessMemory Memory P = ⊤
 abbrev pub Refuses : IndexFault → Option IndexFault → Type 0
 Refuses fault there = UnlessMemory fault (there ≡ Some fault)
 
--- an answer is this value where there is no fault, and otherwise a refusal
+-- an answer is this value if there is no fault, and otherwise a refusal
 abbrev pub Answers : {X : Type 0} → Result X IndexFault → Option IndexFault → X → Type 0
 Answers (Ok x) there value = (there ≡ None) × (x ≡ value)
 Answers (Err fault) there value = Refuses fault there

@@ -1,6 +1,6 @@
--- The repository of an index: a package for each stanza; its clauses, one for each element of its
--- dependencies and equal ones once, in lexicographic order; and the conflicts between packages. Vouillon
--- and Di Cosmo, "On Software Component Co-Installability".
+-- The repository of an index has a package for each stanza. It has a clause for each element of its
+-- dependencies, equal ones once, in lexicographic order; and the conflicts between packages.
+-- Vouillon and Di Cosmo, "On Software Component Co-Installability".
 use Rattle.std.specs.{Prelude.{ℕ, Bool, not, ◌&&◌, ◌||◌, eqb, List, map, filter, length}, List.{list_any, range_with_len}, Str.{bytes_eq}}
 use Rattle.clause_pool.specs.Clauses.{in_row_order}
 use Rattle.relation_fields.specs.{Meeting.{meets}, declared.packages.Home.{Home}, declared.packages.PackageFacts.{PackageFacts}, declared.relations.Atom.{Atom}}
@@ -17,7 +17,8 @@ meets_any home element s = list_any (λ atom. meets atom s home) element
 
 -- the clause of an element: all packages that meet one of its alternatives, ascending
 abbrev pub clause_of : Home → List PackageFacts → List Atom → List ℕ
-clause_of home stanzas element = filter (λ n. meets_any home element (stanza_at stanzas n)) (packages_of stanzas)
+clause_of home stanzas element =
+    filter (λ n. meets_any home element (stanza_at stanzas n)) (packages_of stanzas)
 
 -- the clauses of a stanza
 abbrev pub row_of : Home → List PackageFacts → PackageFacts → List (List ℕ)
@@ -32,7 +33,8 @@ abbrev pub in_conflict : Home → List PackageFacts → ℕ → ℕ → Bool
 in_conflict home stanzas m n =
     not (eqb m n) &&
     (bytes_eq (stanza_at stanzas m).name (stanza_at stanzas n).name ||
-    (stands_against home (stanza_at stanzas m) (stanza_at stanzas n) || stands_against home (stanza_at stanzas n) (stanza_at stanzas m)))
+    (stands_against home (stanza_at stanzas m) (stanza_at stanzas n)
+    || stands_against home (stanza_at stanzas n) (stanza_at stanzas m)))
 
 -- the packages that conflict with the package, ascending
 abbrev pub conflicting_with : Home → List PackageFacts → ℕ → List ℕ

@@ -1,15 +1,16 @@
-//! Blank lines of a text, mostly seen from its end.
+//! Blank lines of a text, mostly searched from its end.
 //!
-//! The last blank line says how far a piece closes stanzas, so the search goes from the end, and over a piece's own bytes alone,
-//! however long the open stanza is. The first one says how much of the piece is read together with what was pending.
+//! The last blank line says how far a piece closes stanzas. So the search goes from the end, and
+//! only over a piece's own bytes, however long the open stanza is. The first one says how much of
+//! the piece is read together with what was pending.
 ghost use Rattle.std.specs.Prelude.{◌≡◌, ◌<◌, ◌≤◌, length, take, drop, count_by, IfNone, IfSome};
 ghost use Rattle.stanza_reader.specs.{Close.{IsClosed}, Lines.{is_blank_byte, is_line_feed}};
 ghost use Rattle.repo_model.specs.{Backward.{is_last_blank, IsLastFeed, NoFeed}, Feeding.{IsOpen}};
 
 use memchr::{memchr, memrchr};
 
-/// How many bytes end with the last blank line that ends with a line feed; 0 where there is none. Of the first `from` bytes
-/// it is known that there is none among them. Only line feeds are looked at, from the last one on.
+/// How many bytes end with the last blank line that ends with a line feed; 0 if there is none.
+/// There is none among the first `from` bytes. Only line feeds are looked at, from the last one on.
 pub(crate) fn closed_length(text: &[u8], from: usize) -> usize
     requires { IsOpen (take from text.now) }
     ensures within { result ≤ length text.now }
@@ -29,7 +30,8 @@ pub(crate) fn closed_length(text: &[u8], from: usize) -> usize
     0
 }
 
-/// How many bytes end with the first blank line that ends with a line feed and is not the first line; 0 where there is none.
+/// How many bytes end with the first blank line that ends with a line feed and is not the first
+/// line; 0 if there is none.
 pub(crate) fn first_closed(text: &[u8]) -> usize
     ensures { result ≤ length text.now }
 {
@@ -72,7 +74,7 @@ fn last_feed(text: &[u8], from: usize, end: usize) -> Option<usize>
     }
 }
 
-/// Whether what stands behind the last line feed of the first bytes is blank.
+/// Whether what follows the last line feed of the first bytes is blank.
 fn is_last_blank(text: &[u8], end: usize) -> bool
     requires { end ≤ length text.now }
     ensures { result ≡ is_last_blank (take end text.now) }

@@ -24,12 +24,12 @@ pub(crate) struct Building {
     pub(crate) packages: PackageList,
     pub(crate) home: Home,
     pub(crate) names: NameTable,
-    // The elements of needs that were read, of which packages share equal ones.
+    // The elements of needs that were read; packages share equal ones.
     pub(crate) elements: ElementTable,
 }
 
 impl Building {
-    /// No stanza was read yet; it takes no memory.
+    /// No stanza was read yet.
     pub(crate) fn new(alloc: Global) -> Self
         ensures packages { result.packages ≡ [] }
         ensures home { result.home.name ≡ None }
@@ -64,14 +64,17 @@ impl Building {
         }
     }
 
-    /// Puts the package of a stanza behind the others, or finds the first fault of that stanza among them.
+    /// Appends the package of a stanza, or finds the first fault of that stanza among the others.
     pub(crate) fn add(&mut self, alloc: Global, stanza: RawStanza) -> Result<(), IndexFault>
         requires short { HasShortValues stanza }
         requires room { length self.old.packages < most_packages }
         requires built { IsBuilt self.old }
-        ensures fault { Answers result (stanza_fault self.old.packages self.old.home.name stanza) tt }
-        ensures packages { OnOk result (self.new.packages ≡ self.old.packages ++ facts_of stanza ∷ []) }
-        ensures home { OnOk result (self.new.home.name ≡ option_or self.old.home.name (architecture_of stanza)) }
+        ensures fault { Answers result
+            (stanza_fault self.old.packages self.old.home.name stanza) tt }
+        ensures packages { OnOk result (self.new.packages
+            ≡ self.old.packages ++ facts_of stanza ∷ []) }
+        ensures home { OnOk result (self.new.home.name
+            ≡ option_or self.old.home.name (architecture_of stanza)) }
         ensures built { OnOk result (IsBuilt self.new) }
     {
         let facts = self.read(alloc, &stanza)?;
@@ -80,14 +83,17 @@ impl Building {
         Ok(())
     }
 
-    /// The same with a stanza that is lent: the name is copied.
+    /// As `add`, for a stanza that is lent: the name is copied.
     pub(crate) fn add_lent(&mut self, alloc: Global, stanza: &RawStanza) -> Result<(), IndexFault>
         requires short { HasShortValues stanza.now }
         requires room { length self.old.packages < most_packages }
         requires built { IsBuilt self.old }
-        ensures fault { Answers result (stanza_fault self.old.packages self.old.home.name stanza.now) tt }
-        ensures packages { OnOk result (self.new.packages ≡ self.old.packages ++ facts_of stanza.now ∷ []) }
-        ensures home { OnOk result (self.new.home.name ≡ option_or self.old.home.name (architecture_of stanza.now)) }
+        ensures fault { Answers result
+            (stanza_fault self.old.packages self.old.home.name stanza.now) tt }
+        ensures packages { OnOk result (self.new.packages
+            ≡ self.old.packages ++ facts_of stanza.now ∷ []) }
+        ensures home { OnOk result (self.new.home.name
+            ≡ option_or self.old.home.name (architecture_of stanza.now)) }
         ensures built { OnOk result (IsBuilt self.new) }
     {
         let facts = self.read(alloc, stanza)?;
@@ -96,16 +102,19 @@ impl Building {
         Ok(())
     }
 
-    /// The package of a stanza but for its name, or the first fault of that stanza among the others. Its needs are noted, and the
-    /// home is settled.
+    /// The package of a stanza without its name, or the first fault of that stanza among the
+    /// others. Its needs are noted, and the home is settled.
     fn read(&mut self, alloc: Global, stanza: &RawStanza) -> Result<NamelessFacts, IndexFault>
         requires short { HasShortValues stanza.now }
         requires built { IsBuilt self.old }
-        ensures fault { Answers result (stanza_fault self.old.packages self.old.home.name stanza.now) (nameless (facts_of stanza.now)) }
+        ensures fault { Answers result (stanza_fault self.old.packages self.old.home.name
+            stanza.now) (nameless (facts_of stanza.now)) }
         ensures packages { IfOk result (λ facts. self.new.packages ≡ self.old.packages) }
-        ensures home { IfOk result (λ facts. self.new.home.name ≡ option_or self.old.home.name (architecture_of stanza.now)) }
+        ensures home { IfOk result (λ facts. self.new.home.name
+            ≡ option_or self.old.home.name (architecture_of stanza.now)) }
         ensures built { IfOk result (λ facts. IsBuiltFrom self.new.packages self.new.names) }
-        ensures noted { IfOk result (λ facts. self.new.elements ≡ needs_of_all self.new.packages ++ facts.needs) }
+        ensures noted { IfOk result (λ facts. self.new.elements
+            ≡ needs_of_all self.new.packages ++ facts.needs) }
     {
         let architecture = architecture_in(stanza);
         let facts = read_facts(alloc, &mut self.elements, stanza, architecture)?;
@@ -115,7 +124,7 @@ impl Building {
         Ok(facts)
     }
 
-    /// Puts a package behind the others, whose needs are noted.
+    /// Appends a package whose needs are noted.
     fn put(&mut self, facts: PackageFacts) -> Result<(), AllocError>
         requires room { length self.old.packages < most_packages }
         requires built { IsBuiltFrom self.old.packages self.old.names }
@@ -140,7 +149,8 @@ fn check_new(
     facts: &NamelessFacts,
 ) -> Result<(), IndexFault>
     requires { IsBuiltFrom packages.now names.now }
-    ensures { Answers result (option_map (λ first. IndexFault.Duplicate first.line facts.now.line) (find (is_same_package (named facts.now name.now)) packages.now)) tt }
+    ensures { Answers result (option_map (λ first. IndexFault.Duplicate first.line facts.now.line)
+        (find (is_same_package (named facts.now name.now)) packages.now)) tt }
 {
     let same = names.versioned(alloc, packages, name, &facts.version)?;
     match first_of(packages, &same) {
@@ -152,9 +162,10 @@ fn check_new(
     }
 }
 
-// The package of the first of the numbers, where there is one.
+// The package of the first of the numbers, if there is one.
 fn first_of<'a>(packages: &'a [PackageFacts], numbers: &[u32]) -> Option<&'a PackageFacts>
-    ensures { option_copied result ≡ option_and_then (slice_get packages.now) (slice_get numbers.now 0) }
+    ensures { option_copied result
+        ≡ option_and_then (slice_get packages.now) (slice_get numbers.now 0) }
 {
     match numbers.first() {
         Some(number) => packages.get(*number as usize),
@@ -171,16 +182,20 @@ fn is_at_home(home: &Home, architecture: &[u8]) -> bool
     }
 }
 
-// Checks that a stanza with this field `Architecture` is of the home, unless its architecture is `all` or missing. Where there is no
-// home yet, it takes the architecture as the home.
+// Checks that a stanza with this field `Architecture` is of the home, unless its architecture is
+// `all` or missing. If there is no home yet, the architecture becomes the home.
 #[tactic(auto, unfolding(crate::specs::FirstFault::mixed_fault, crate::specs::Facts::architecture_of))]
 fn settle_home(
     alloc: Global,
     home: &mut Home,
     architecture: Option<&RawField>,
 ) -> Result<(), IndexFault>
-    ensures fault { (stanza : RawStanza) → option_copied architecture.entry ≡ field_of FieldKind.Architecture stanza → Answers result (mixed_fault home.old.name stanza) tt }
-    ensures home { (stanza : RawStanza) → option_copied architecture.entry ≡ field_of FieldKind.Architecture stanza → OnOk result (home.new.name ≡ option_or home.old.name (architecture_of stanza)) }
+    ensures fault { (stanza : RawStanza) →
+        option_copied architecture.entry ≡ field_of FieldKind.Architecture stanza →
+        Answers result (mixed_fault home.old.name stanza) tt }
+    ensures home { (stanza : RawStanza) →
+        option_copied architecture.entry ≡ field_of FieldKind.Architecture stanza →
+        OnOk result (home.new.name ≡ option_or home.old.name (architecture_of stanza)) }
 {
     let Some(field) = architecture else {
         return Ok(());

@@ -8,8 +8,8 @@ use deb_version::Version;
 use std::alloc::{AllocError, Global};
 
 impl Suite {
-    /// The packages that a goal names, ascending: those of its name, and of a version that compares as equal where it has
-    /// one.
+    /// The packages that a goal names, ascending: those of its name, and if it has a version those
+    /// in a version that compares as equal.
     pub fn chosen_by(&self, alloc: Global, goal: &Goal) -> Result<Vec<u32>, AllocError>
         ensures { IfOk result (λ made. made.items ≡ packages_named self.now.packages goal.now) }
     {
@@ -22,7 +22,8 @@ impl Suite {
 
     /// The packages of a name, ascending.
     pub fn named(&self, alloc: Global, name: &[u8]) -> Result<Vec<u32>, AllocError>
-        ensures { IfOk result (λ made. made.items ≡ packages_named self.now.packages (any_version name.now)) }
+        ensures { IfOk result (λ made. made.items
+            ≡ packages_named self.now.packages (any_version name.now)) }
     {
         self.names.named(alloc, self.packages.as_slice(), name)
     }
@@ -34,13 +35,14 @@ impl Suite {
         name: &[u8],
         version: &Version,
     ) -> Result<Vec<u32>, AllocError>
-        ensures { IfOk result (λ made. made.items ≡ packages_named self.now.packages (one_version name.now version.now)) }
+        ensures { IfOk result (λ made. made.items
+            ≡ packages_named self.now.packages (one_version name.now version.now)) }
     {
         self.names
             .versioned(alloc, self.packages.as_slice(), name, version)
     }
 
-    /// Whether a package has the name; it takes no memory.
+    /// Whether a package has the name.
     pub fn has_name(&self, name: &[u8]) -> bool
         ensures { result ≡ list_any (is_named name.now) self.now.packages }
     {

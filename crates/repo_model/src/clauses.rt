@@ -9,7 +9,8 @@ use relation_fields::{Atom, Home, PackageFacts};
 use std::alloc::{AllocError, Global};
 use virtual_provides::NameTable;
 
-/// The clause of an element: the packages that meet one of its alternatives, which are looked up by their names.
+/// The clause of an element: the packages that meet one of its alternatives, which are looked up by
+/// their names.
 pub(crate) fn element_clause(
     alloc: Global,
     names: &NameTable,
@@ -35,12 +36,13 @@ fn single_clause(
     atom: &Atom,
 ) -> Result<Vec<u32>, AllocError>
     requires { IsBuiltFrom packages.now names.now }
-    ensures { IfOk result (λ clause. clause.items ≡ clause_of home.now packages.now (atom.now ∷ [])) }
+    ensures { IfOk result (λ clause. clause.items
+        ≡ clause_of home.now packages.now (atom.now ∷ [])) }
 {
     names.meeting(alloc, packages, atom, home)
 }
 
-// The clause of an element of any alternatives.
+// The clause of an element with any number of alternatives.
 fn joined_clause(
     alloc: Global,
     names: &NameTable,
@@ -56,7 +58,7 @@ fn joined_clause(
     Ok(numbers)
 }
 
-// The packages that meet each of the atoms, one atom's behind the other's.
+// The packages that meet each of the atoms, those of one atom after those of another.
 fn meeting_each(
     alloc: Global,
     names: &NameTable,
@@ -65,7 +67,8 @@ fn meeting_each(
     atoms: &[Atom],
 ) -> Result<Vec<u32>, AllocError>
     requires { IsBuiltFrom packages.now names.now }
-    ensures { IfOk result (λ numbers. numbers.items ≡ flat_map (meeting home.now packages.now) atoms.now) }
+    ensures { IfOk result (λ numbers. numbers.items
+        ≡ flat_map (meeting home.now packages.now) atoms.now) }
 {
     let mut numbers = Vec::new(alloc);
     for atom in atoms {

@@ -6,7 +6,7 @@ use listed::Listed;
 use relation_fields::{AtomList, ElementList, Home, PackageFacts, Provide, ProvideList};
 use std::alloc::{AllocError, Global};
 
-/// The same facts; lists of atoms are shared.
+/// A copy of the facts, with shared lists of atoms.
 pub(crate) fn copy_of_facts(alloc: Global, facts: &PackageFacts) -> Result<PackageFacts, AllocError>
     ensures { IfOk result (λ made. made ≡ facts.now) }
 {
@@ -21,7 +21,7 @@ pub(crate) fn copy_of_facts(alloc: Global, facts: &PackageFacts) -> Result<Packa
     })
 }
 
-/// The same architecture.
+/// A copy of the architecture.
 pub(crate) fn copy_of_home(alloc: Global, home: &Home) -> Result<Home, AllocError>
     ensures { IfOk result (λ made. made ≡ home.now) }
 {
@@ -29,7 +29,7 @@ pub(crate) fn copy_of_home(alloc: Global, home: &Home) -> Result<Home, AllocErro
     Ok(Home { name })
 }
 
-// The same lists for a further owner.
+// The lists of atoms for a further owner.
 fn shared(alloc: Global, elements: &[AtomList]) -> Result<ElementList, AllocError>
     ensures { IfOk result (λ made. made ≡ elements.now) }
 {
@@ -40,7 +40,7 @@ fn shared(alloc: Global, elements: &[AtomList]) -> Result<ElementList, AllocErro
     Ok(made)
 }
 
-// The same provides.
+// A copy of the provides.
 fn copy_of_provides(alloc: Global, provides: &[Provide]) -> Result<ProvideList, AllocError>
     ensures { IfOk result (λ made. made ≡ provides.now) }
 {
@@ -51,7 +51,7 @@ fn copy_of_provides(alloc: Global, provides: &[Provide]) -> Result<ProvideList, 
     Ok(made)
 }
 
-// The same provide.
+// A copy of the provide.
 fn copy_of_provide(alloc: Global, provide: &Provide) -> Result<Provide, AllocError>
     ensures { IfOk result (λ made. made ≡ provide.now) }
 {
@@ -68,7 +68,7 @@ fn copy_of_provide(alloc: Global, provide: &Provide) -> Result<Provide, AllocErr
     })
 }
 
-// The same text, where there is one.
+// A copy of the text, if there is one.
 fn copy_of_text(alloc: Global, text: &Option<Bytes>) -> Result<Option<Bytes>, AllocError>
     ensures { IfOk result (λ made. made ≡ text.now) }
 {
@@ -78,10 +78,10 @@ fn copy_of_text(alloc: Global, text: &Option<Bytes>) -> Result<Option<Bytes>, Al
     }
 }
 
-// The same version.
+// A copy of the version.
 fn copy_of_version(alloc: Global, version: &Version) -> Result<Version, AllocError>
     ensures { IfOk result (λ made. made ≡ version.now) }
 {
-    // A version's text is well-formed, so only memory can want.
+    // A version's text is well formed, so only memory can be missing.
     Version::parse(alloc, version.text()).map_err(|_| AllocError)
 }

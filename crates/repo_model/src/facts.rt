@@ -1,6 +1,6 @@
 //! The package that a stanza describes, or the fault of its fields.
 //!
-//! The name comes last, so that whoever owns the stanza gives it away without a copy.
+//! The name comes last, so that the owner of the stanza gives it away without a copy.
 ghost use Rattle.std.specs.{Prelude.{◌≡◌, ◌++◌, None, Some, IfOk, is_some}, List.{AllByRecursion}, Option.{option_and_then, option_copied, option_or}};
 ghost use Rattle.deb_version.specs.{Names.{is_name}, Grammar.{is_version}};
 ghost use Rattle.relation_fields.specs.{Grammar.{is_architecture, atom_of}, Fields.{said_in}};
@@ -19,7 +19,7 @@ use relation_fields::{
 use stanza_reader::{FieldKind, RawField, RawStanza};
 use std::alloc::Global;
 
-/// The package that a stanza describes, but for its name.
+/// The package that a stanza describes, without its name.
 #[derive(Drop)]
 pub(crate) struct NamelessFacts {
     pub(crate) line: u64,
@@ -31,7 +31,7 @@ pub(crate) struct NamelessFacts {
 }
 
 impl NamelessFacts {
-    /// The package with that name; it takes no memory.
+    /// The package with that name.
     pub(crate) fn named(self, name: Bytes) -> PackageFacts
         ensures { result ≡ named self name }
     {
@@ -55,7 +55,7 @@ impl NamelessFacts {
     }
 }
 
-/// The package that a stanza describes, but for its name, or the first fault of its fields.
+/// The package that a stanza describes, without its name, or the first fault of its fields.
 #[tactic(auto, unfolding(crate::specs::Facts::facts_of, crate::specs::FirstFault::presence_fault, crate::specs::FirstFault::value_fault))]
 pub(crate) fn read_facts(
     alloc: Global,
@@ -64,7 +64,8 @@ pub(crate) fn read_facts(
     architecture: Option<&RawField>,
 ) -> Result<NamelessFacts, IndexFault>
     requires short { HasShortValues stanza.now }
-    requires architecture { option_copied architecture ≡ field_of FieldKind.Architecture stanza.now }
+    requires architecture { option_copied architecture
+        ≡ field_of FieldKind.Architecture stanza.now }
     ensures facts { Answers result (own_fault stanza.now) (nameless (facts_of stanza.now)) }
     ensures noted { IfOk result (λ facts. elements.new ≡ elements.old ++ facts.needs) }
 {
@@ -102,7 +103,10 @@ pub(crate) fn read_facts(
 // The atoms of `Conflicts`, and then those of `Breaks`.
 fn read_against(alloc: Global, fields: &[RawField]) -> Result<AtomList, IndexFault>
     requires { AllByRecursion IsShort fields.now }
-    ensures { Answers result (option_or (option_and_then (unless_said atom_of) (field_among FieldKind.Conflicts fields.now)) (option_and_then (unless_said atom_of) (field_among FieldKind.Breaks fields.now))) (said_in atom_of (value_among FieldKind.Conflicts fields.now) ++ said_in atom_of (value_among FieldKind.Breaks fields.now)) }
+    ensures { Answers result (option_or (option_and_then (unless_said atom_of) (field_among
+        FieldKind.Conflicts fields.now)) (option_and_then (unless_said atom_of) (field_among
+        FieldKind.Breaks fields.now))) (said_in atom_of (value_among FieldKind.Conflicts fields.now)
+        ++ said_in atom_of (value_among FieldKind.Breaks fields.now)) }
 {
     let atoms = read_both(
         alloc,
@@ -114,7 +118,7 @@ fn read_against(alloc: Global, fields: &[RawField]) -> Result<AtomList, IndexFau
     Ok(AtomList::of(alloc, atoms)?)
 }
 
-/// The value of the field `Package`, taken out of its stanza; that of a missing field is empty. It takes no memory.
+/// The value of the field `Package`, taken out of its stanza; that of a missing field is empty.
 pub(crate) fn name_of(alloc: Global, stanza: RawStanza) -> Bytes
     ensures { result ≡ value_of FieldKind.Package stanza }
 {
@@ -144,7 +148,7 @@ pub(crate) fn name_in(stanza: &RawStanza) -> &[u8]
     }
 }
 
-/// Lends the field `Architecture`, where there is one.
+/// Lends the field `Architecture`, if there is one.
 pub(crate) fn architecture_in(stanza: &RawStanza) -> Option<&RawField>
     ensures { option_copied result ≡ field_of FieldKind.Architecture stanza.now }
 {
@@ -162,7 +166,7 @@ fn check_name(field: &RawField) -> Result<(), IndexFault>
     Ok(())
 }
 
-// The value of `Version`, where it is a version.
+// The value of `Version`, if it is a version.
 fn read_version(alloc: Global, field: &RawField) -> Result<Version, IndexFault>
     ensures { Answers result (unless_good is_version BadVersion field.now) field.now.value }
 {
@@ -174,9 +178,11 @@ fn read_version(alloc: Global, field: &RawField) -> Result<Version, IndexFault>
     }
 }
 
-// Checks that the value of the field `Architecture`, where there is one, is the name of an architecture.
+// Checks that the value of the field `Architecture`, if there is one, is the name of an
+// architecture.
 fn check_architecture(field: Option<&RawField>) -> Result<(), IndexFault>
-    ensures { Answers result (option_and_then (unless_good is_architecture BadArchitecture) (option_copied field.entry)) tt }
+    ensures { Answers result (option_and_then (unless_good is_architecture BadArchitecture)
+        (option_copied field.entry)) tt }
 {
     let Some(field) = field else {
         return Ok(());
@@ -198,7 +204,8 @@ pub fn is_all(architecture: &[u8]) -> bool
 // Whether a stanza with this field `Architecture` has an architecture other than `all`.
 #[tactic(auto, unfolding(crate::specs::Facts::architecture_of))]
 fn is_arch_dependent(architecture: Option<&RawField>) -> bool
-    ensures { (stanza : RawStanza) → option_copied architecture.entry ≡ field_of FieldKind.Architecture stanza → result ≡ is_some (architecture_of stanza) }
+    ensures { (stanza : RawStanza) → option_copied architecture.entry
+        ≡ field_of FieldKind.Architecture stanza → result ≡ is_some (architecture_of stanza) }
 {
     match architecture {
         Some(field) => !is_all(field.value.as_slice()),

@@ -9,7 +9,7 @@ use thiserror::Error;
 /// What is wrong with an index, with the line, counted from 1, at which it is seen.
 #[derive(Clone, Copy, Debug, PartialEq, Eq, Error)]
 pub enum IndexFault {
-    /// The lines of a stanza are no fields, or a field stands twice; it is never want of memory.
+    /// The lines of a stanza are no fields, or a field is there twice; it is never want of memory.
     #[error("{0}")]
     Stanza(StanzaFault),
     /// The stanza that begins at the line has no field `Package`.
@@ -24,17 +24,20 @@ pub enum IndexFault {
     /// The field `Version` that begins at the line has a value that is no version.
     #[error("line {line}: bad Version value")]
     BadVersion { line: u64 },
-    /// The field `Architecture` that begins at the line has a value that is no name of an architecture.
+    /// The field `Architecture` that begins at the line has a value that is no name of an
+    /// architecture.
     #[error("line {line}: bad Architecture value")]
     BadArchitecture { line: u64 },
-    /// The relation field that begins at the line has an element, counted from 1, outside the grammar.
+    /// The relation field that begins at the line has an element, counted from 1, outside the
+    /// grammar.
     #[error("line {line}: bad relation, element {element}")]
     BadRelation { line: u64, element: u32 },
-    /// The stanza that begins at `line` has the name of the one that begins at `first_line`, and an equal version.
+    /// The stanza that begins at `line` has the name of the one that begins at `first_line`, and an
+    /// equal version.
     #[error("line {line}: same package as line {first_line}")]
     Duplicate { first_line: u64, line: u64 },
-    /// The field `Architecture` that begins at the line names another architecture than `all` and than the first earlier
-    /// stanza that is not of `all`.
+    /// The field `Architecture` that begins at the line names an architecture that is neither `all`
+    /// nor that of the first earlier stanza that is not of `all`.
     #[error("line {line}: second architecture")]
     Mixed { line: u64 },
     /// There are more than 200,000 stanzas.

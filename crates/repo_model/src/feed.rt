@@ -10,8 +10,8 @@ use byte_flow::Taker;
 use std::alloc::{AllocError, Global};
 use std::mem;
 
-/// An index that is taken in pieces. Of the stanzas that are closed it keeps the packages, of the open one the bytes, and from
-/// the first fault on that fault alone.
+/// An index that is taken in pieces. It keeps the packages of the stanzas that are closed and the
+/// bytes of the open one. From the first fault on it keeps only that fault.
 #[derive(Drop)]
 pub struct SuiteFeed {
     alloc: Global,
@@ -47,15 +47,21 @@ impl SuiteFeed {
         self.taken
     }
 
-    /// The suite of the bytes that were taken, or their first fault, as if they were read at once. Where a piece was refused the
-    /// answer is want of memory.
+    /// The suite of the bytes that were taken, or their first fault, as if they were read at once.
+    /// If a piece was refused, the answer is want of memory.
     pub fn finish(self) -> Result<Suite, IndexFault>
-        ensures refused { IfErr result (λ fault. (text : List ℕ) → FeedStandsFor self text → Refuses fault (first_fault text)) }
-        ensures accepted { OnOk result ((text : List ℕ) → FeedStandsFor self text → first_fault text ≡ None) }
-        ensures packages { IfOk result (λ suite. (text : List ℕ) → FeedStandsFor self text → suite.packages ≡ map facts_of (stanzas_of text)) }
-        ensures home { IfOk result (λ suite. (text : List ℕ) → FeedStandsFor self text → suite.home.name ≡ home_of (stanzas_of text)) }
-        ensures named { IfOk result (λ suite. (text : List ℕ) → FeedStandsFor self text → AreNamedPackages suite.packages) }
-        ensures spent { was_refused self ≡ true → IsErrAnd result (λ fault. is_memory fault ≡ true) }
+        ensures refused { IfErr result (λ fault. (text : List ℕ) → FeedStandsFor self text →
+            Refuses fault (first_fault text)) }
+        ensures accepted { OnOk result ((text : List ℕ) → FeedStandsFor self text →
+            first_fault text ≡ None) }
+        ensures packages { IfOk result (λ suite. (text : List ℕ) → FeedStandsFor self text →
+            suite.packages ≡ map facts_of (stanzas_of text)) }
+        ensures home { IfOk result (λ suite. (text : List ℕ) → FeedStandsFor self text →
+            suite.home.name ≡ home_of (stanzas_of text)) }
+        ensures named { IfOk result (λ suite. (text : List ℕ) → FeedStandsFor self text →
+            AreNamedPackages suite.packages) }
+        ensures spent { was_refused self ≡ true →
+            IsErrAnd result (λ fault. is_memory fault ≡ true) }
     {
         let SuiteFeed { alloc, reading, .. } = self;
         match reading {
@@ -75,11 +81,12 @@ impl Taker for SuiteFeed {
 
     ghost limit = { λ _. most_bytes };
 
-    /// Takes the next piece. Behind a refusal each further piece is refused too.
+    /// Takes the next piece. After a refusal each further piece is refused too.
     fn take(&mut self, piece: &[u8]) -> Result<(), AllocError>
         requires { taken_of self.old + length piece.now ≤ most_bytes }
         ensures grows { OnOk result (taken_of self.new ≡ taken_of self.old + length piece.now) }
-        ensures stands { OnOk result ((text : List ℕ) → FeedStandsFor self.old text → FeedStandsFor self.new (text ++ piece.now)) }
+        ensures stands { OnOk result ((text : List ℕ) → FeedStandsFor self.old text →
+            FeedStandsFor self.new (text ++ piece.now)) }
         ensures keeps { OnErr result (taken_of self.new ≡ taken_of self.old) }
         ensures spends { OnErr result (was_refused self.new ≡ true) }
         ensures stays_spent { was_refused self.old ≡ true → IsErr result }
@@ -96,16 +103,19 @@ impl Taker for SuiteFeed {
     }
 }
 
-// Reads a piece behind what was read; behind a fault pieces are not looked at.
+// Reads a piece after what was read; after a fault pieces are not looked at.
 fn read_piece(
     alloc: Global,
     before: Result<Progress, IndexFault>,
     piece: &[u8],
 ) -> Result<Progress, IndexFault>
-    requires room { (taken : ℕ) × FitsWithin taken before × (taken + length piece.now ≤ most_bytes) }
+    requires room { (taken : ℕ) × FitsWithin taken before
+        × (taken + length piece.now ≤ most_bytes) }
     requires unclosed { HoldsOpen before }
-    ensures stands { (text : List ℕ) → StandsFor before text → StandsUnlessMemory result (text ++ piece.now) }
-    ensures fits { (taken : ℕ) → FitsWithin taken before → FitsWithin (taken + length piece.now) result }
+    ensures stands { (text : List ℕ) → StandsFor before text →
+        StandsUnlessMemory result (text ++ piece.now) }
+    ensures fits { (taken : ℕ) → FitsWithin taken before →
+        FitsWithin (taken + length piece.now) result }
     ensures unclosed { HoldsOpen result }
     ensures spent { is_spent before ≡ true → is_spent result ≡ true }
 {

@@ -4,7 +4,7 @@ ghost use Rattle.repo_model.specs.Fields.{field_among, is_kind, IsShort};
 
 use stanza_reader::{FieldKind, RawField};
 
-/// The field of a kind, where there is one.
+/// The first field of a kind, if there is one.
 pub fn find_field(fields: &[RawField], kind: FieldKind) -> Option<&RawField>
     ensures value { option_copied result ≡ field_among kind fields.now }
     ensures short { AllByRecursion IsShort fields.now → IfSome result (λ field. IsShort field.now) }
@@ -12,7 +12,7 @@ pub fn find_field(fields: &[RawField], kind: FieldKind) -> Option<&RawField>
     fields.iter().find(|field| has_kind(field, kind))
 }
 
-/// The place of the first field of a kind, where there is one.
+/// The place of the first field of a kind, if there is one.
 pub(crate) fn place_of(fields: &[RawField], kind: FieldKind) -> Option<usize>
     ensures { result ≡ position (λ field. is_kind kind field.kind) fields.now }
 {

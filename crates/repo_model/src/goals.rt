@@ -6,7 +6,7 @@ use deb_version::{Bytes, Version, VersionError, is_package_name};
 use listed::Listed;
 use std::alloc::{AllocError, Global};
 
-/// A name of packages, and a version where the goal has one.
+/// A name of packages, and a version if the goal has one.
 #[derive(Drop)]
 pub struct Goal {
     /// The name of the packages.
@@ -53,8 +53,8 @@ impl From<VersionError> for GoalError {
 }
 
 impl Goal {
-    /// Reads a goal, `name` or `name=version`, cut at the first equals sign; a word outside the form is refused before any
-    /// memory is asked for.
+    /// Reads a goal, `name` or `name=version`, cut at the first equals sign. A word outside the
+    /// form is refused before any memory is asked for.
     pub fn parse(alloc: Global, word: &str) -> Result<Self, GoalError>
         ensures goal { IfOk result (λ goal. goal_of word.now ≡ Some goal) }
         ensures shape { IfErr result (OnShape (goal_of word.now ≡ None)) }
@@ -83,7 +83,7 @@ fn equals_place(word: &[u8]) -> Option<usize>
     word.iter().position(|byte| *byte == b'=')
 }
 
-// Reads a goal of a name alone.
+// Reads a goal with only a name.
 fn read_name(alloc: Global, name: &[u8]) -> Result<Goal, GoalError>
     ensures goal { IfOk result (λ goal. goal_of_name name.now ≡ Some goal) }
     ensures shape { IfErr result (OnShape (goal_of_name name.now ≡ None)) }
@@ -98,7 +98,7 @@ fn read_name(alloc: Global, name: &[u8]) -> Result<Goal, GoalError>
     })
 }
 
-// Reads a goal of a name and a version.
+// Reads a goal with a name and a version.
 fn read_parts(alloc: Global, name: &[u8], version: &[u8]) -> Result<Goal, GoalError>
     ensures goal { IfOk result (λ goal. goal_of_parts name.now version.now ≡ Some goal) }
     ensures shape { IfErr result (OnShape (goal_of_parts name.now version.now ≡ None)) }

@@ -30,14 +30,14 @@ impl<'a> Model for LentName<'a> {
 }
 
 impl<'a> LentName<'a> {
-    /// The text as a name; it takes no memory.
+    /// The text as a name.
     pub fn of(text: &'a [u8]) -> Self
         ensures { result ≡ text.now }
     {
         LentName { text }
     }
 
-    /// The text, for as long as it is lent; it takes no memory.
+    /// The text, for as long as it is lent.
     pub fn as_slice(&self) -> &'a [u8]
         ensures { result.now ≡ self.now }
     {
@@ -57,7 +57,7 @@ impl Suite {
         copied(alloc, names.as_slice())
     }
 
-    /// The same names, lent from the facts of the packages.
+    /// The distinct names, ascending by bytes, lent from the facts of the packages.
     pub fn lent_names(&self, alloc: Global) -> Result<LentNames<'_>, AllocError>
         ensures { IfOk result (λ names. names ≡ names_in self.now.packages) }
     {
@@ -68,15 +68,17 @@ impl Suite {
 
 /// The names, each once and ascending by bytes.
 pub fn distinct_names(alloc: Global, names: Vec<&[u8]>) -> Result<NameList, AllocError>
-    ensures { IfOk result (λ distinct. distinct ≡ in_row_order (map (λ name. name.now) names.entry.items)) }
+    ensures { IfOk result (λ distinct. distinct
+        ≡ in_row_order (map (λ name. name.now) names.entry.items)) }
 {
     let names = in_order(alloc, names)?;
     copied(alloc, names.as_slice())
 }
 
-// The same, lent.
+// The names, each once and ascending by bytes, lent.
 fn in_order<'a>(alloc: Global, names: Vec<&'a [u8]>) -> Result<LentNames<'a>, AllocError>
-    ensures { IfOk result (λ distinct. distinct ≡ in_row_order (map (λ name. name.now) names.entry.items)) }
+    ensures { IfOk result (λ distinct. distinct
+        ≡ in_row_order (map (λ name. name.now) names.entry.items)) }
 {
     let mut names = names;
     names.sort_unstable();
@@ -98,7 +100,8 @@ fn copied(alloc: Global, names: &[LentName]) -> Result<NameList, AllocError>
 
 // The names of the packages in the order of the packages.
 fn texts_of<'a>(alloc: Global, packages: &'a [PackageFacts]) -> Result<Vec<&'a [u8]>, AllocError>
-    ensures { IfOk result (λ names. map (λ name. name.now) names.items ≡ map (λ facts. facts.name) packages.now) }
+    ensures { IfOk result (λ names. map (λ name. name.now) names.items
+        ≡ map (λ facts. facts.name) packages.now) }
 {
     let mut names = Vec::new(alloc);
     for facts in packages {
@@ -121,7 +124,7 @@ fn each_once<'a>(alloc: Global, sorted: &[&'a [u8]]) -> Result<LentNames<'a>, Al
     Ok(names)
 }
 
-// Whether the name at a place stands in front of it too.
+// Whether the name at a place is also at the place before it.
 fn is_repeated(sorted: &[&[u8]], place: usize) -> bool
     requires { place < length sorted.now }
     ensures { result ≡ is_repeated (map (λ name. name.now) sorted.now) place }

@@ -11,8 +11,8 @@ use row_book::Pair;
 use std::alloc::{AllocError, Global};
 use virtual_provides::NameTable;
 
-/// The pairs of packages that conflict; a pair may stand twice. Only packages under one name are put together, and a
-/// package with those that meet one of its conflicts.
+/// The pairs of packages that conflict; a pair may be there twice. Only packages of one name are
+/// paired, and a package with those that meet one of its conflicts.
 pub(crate) fn conflict_pairs(
     alloc: Global,
     names: &NameTable,
@@ -22,7 +22,8 @@ pub(crate) fn conflict_pairs(
     requires built { IsBuiltFrom packages.now names.now }
     requires few { length packages.now ≤ most_packages }
     ensures fit { IfOk result (λ pairs. PairsFit pairs.items (length packages.now)) }
-    ensures conflicts { IfOk result (λ pairs. (p q : ℕ) → p < length packages.now → q < length packages.now →
+    ensures conflicts { IfOk result (λ pairs. (p q : ℕ) → p < length packages.now →
+        q < length packages.now →
         are_paired pairs.items p q ≡ in_conflict home.now packages.now p q) }
 {
     let mut pairs = Vec::new(alloc);
@@ -46,12 +47,13 @@ fn earlier_named(
     requires built { IsBuiltFrom packages.now names.now }
     requires few { length packages.now ≤ 200000 }
     requires place { place < length packages.now }
-    ensures { IfOk result (λ found. found.items ≡ numbers_where (is_named (stanza_at packages.now place).name) (take place packages.now)) }
+    ensures { IfOk result (λ found. found.items
+        ≡ numbers_where (is_named (stanza_at packages.now place).name) (take place packages.now)) }
 {
     names.named(alloc, &packages[..place], packages[place].name.as_slice())
 }
 
-// Puts in the pairs of the package and those that meet one of the atoms.
+// Appends the pairs of the package and those that meet one of the atoms.
 fn push_against(
     alloc: Global,
     pairs: &mut Vec<Pair>,
@@ -62,7 +64,8 @@ fn push_against(
     atoms: &[Atom],
 ) -> Result<(), AllocError>
     requires { IsBuiltFrom packages.now names.now }
-    ensures { OnOk result (Adds (IsAgainst home.now packages.now number atoms.now) pairs.old.items pairs.new.items) }
+    ensures { OnOk result
+        (Adds (IsAgainst home.now packages.now number atoms.now) pairs.old.items pairs.new.items) }
 {
     for atom in atoms {
         let others = names.meeting(alloc, packages, atom, home)?;
@@ -71,7 +74,7 @@ fn push_against(
     Ok(())
 }
 
-// Puts in the pairs of the package and another one of these.
+// Appends the pairs of the package and each other one of these.
 fn push_pairs(pairs: &mut Vec<Pair>, number: u32, others: &[u32]) -> Result<(), AllocError>
     ensures { OnOk result (Adds (IsPairWith number others.now) pairs.old.items pairs.new.items) }
 {

@@ -12,8 +12,10 @@ use crate::suite::Suite;
 use stanza_reader::RawStanza;
 use std::alloc::Global;
 
-/// The suite of the stanzas whose flags are up, or the first fault among these: what `read_suite` gives of each text that has these
-/// stanzas, as that in which the lines of the others were made empty. There is a flag for each stanza, and no value has more than
+/// The suite of the stanzas whose flags are up, or the first fault among these.
+///
+/// It is what `read_suite` returns for each text with these stanzas, as one in which the lines of
+/// the others were made empty. There is a flag for each stanza, and no value has more than
 /// 1,073,741,824 bytes.
 pub fn suite_of_picked(
     alloc: Global,
@@ -22,8 +24,10 @@ pub fn suite_of_picked(
 ) -> Result<Suite, IndexFault>
     requires many { length flags.now ≡ length all.now }
     requires short { (stanza : RawStanza) → In stanza all.now → HasShortValues stanza }
-    ensures refused { IfErr result (λ fault. (text : List ℕ) → stanzas text ≡ Ok (picked flags.now all.now) → Refuses fault (first_fault text)) }
-    ensures suite { IfOk result (λ suite. (text : List ℕ) → stanzas text ≡ Ok (picked flags.now all.now) → IsSuiteOf text suite.packages suite.home.name) }
+    ensures refused { IfErr result (λ fault. (text : List ℕ) →
+        stanzas text ≡ Ok (picked flags.now all.now) → Refuses fault (first_fault text)) }
+    ensures suite { IfOk result (λ suite. (text : List ℕ) → stanzas text
+        ≡ Ok (picked flags.now all.now) → IsSuiteOf text suite.packages suite.home.name) }
 {
     let mut building = Building::new(alloc);
     for (place, stanza) in all.iter().enumerate() {
@@ -36,14 +40,18 @@ pub fn suite_of_picked(
     Ok(building.into_suite())
 }
 
-// Puts the package of a stanza behind the others, or finds that it is one too many, or the first fault of that stanza.
+// Appends the package of a stanza. It may find that the stanza is one too many, or the first fault
+// of that stanza.
 fn add_next(alloc: Global, building: &mut Building, stanza: &RawStanza) -> Result<(), IndexFault>
     requires short { HasShortValues stanza.now }
     requires few { length building.old.packages ≤ most_packages }
     requires built { IsBuilt building.old }
-    ensures fault { Answers result (next_fault building.old.packages building.old.home.name stanza.now) tt }
-    ensures packages { OnOk result (building.new.packages ≡ building.old.packages ++ facts_of stanza.now ∷ []) }
-    ensures home { OnOk result (building.new.home.name ≡ option_or building.old.home.name (architecture_of stanza.now)) }
+    ensures fault { Answers result
+        (next_fault building.old.packages building.old.home.name stanza.now) tt }
+    ensures packages { OnOk result (building.new.packages
+        ≡ building.old.packages ++ facts_of stanza.now ∷ []) }
+    ensures home { OnOk result (building.new.home.name
+        ≡ option_or building.old.home.name (architecture_of stanza.now)) }
     ensures few { OnOk result (length building.new.packages ≤ most_packages) }
     ensures built { OnOk result (IsBuilt building.new) }
 {

@@ -1,4 +1,5 @@
-//! The repository of a suite as plain lists, and co-installability by the plainest way: for tests of the fast ways.
+//! The repository of a suite as plain lists, and co-installability in the plainest way: for tests
+//! of the fast ways.
 ghost use Rattle.std.specs.{Prelude.{◌≡◌, ◌≤◌, ◌<◌, ◌↔◌, ℕ, [], IfOk, IsTrue, OnOk, map, length, slice_index_or, true, false, ◌||◌}, Str.{bytes_eq}};
 ghost use Rattle.relation_fields.specs.Meeting.{meets};
 ghost use Rattle.clause_pool.specs.Clauses.{comes_before, in_row_order, insert_clause};
@@ -22,19 +23,22 @@ pub struct PlainRepository {
     pub conflicts: Listed<NumList>,
 }
 
-/// The repository of a suite; it fails only where no memory is found. For tests: time is quadratic in the packages.
+/// The repository of a suite. For tests: time is quadratic in the packages.
 pub fn plain_repository(alloc: Global, suite: &Suite) -> Result<PlainRepository, AllocError>
-    ensures clauses { IfOk result (λ plain. plain.clauses ≡ (suite_repository suite.now.home suite.now.packages).clauses) }
-    ensures conflicts { IfOk result (λ plain. plain.conflicts ≡ (suite_repository suite.now.home suite.now.packages).conflicts) }
+    ensures clauses { IfOk result (λ plain. plain.clauses
+        ≡ (suite_repository suite.now.home suite.now.packages).clauses) }
+    ensures conflicts { IfOk result (λ plain. plain.conflicts
+        ≡ (suite_repository suite.now.home suite.now.packages).conflicts) }
 {
     repository(alloc, &suite.home, suite.packages.as_slice())
 }
 
-/// Whether the packages with the numbers can be installed together, judged on their stanzas; it fails only where no
-/// memory is found. For tests: time is exponential in the packages.
+/// Whether the packages with the numbers can be installed together, judged on their stanzas. For
+/// tests: time is exponential in the packages.
 #[tactic(auto, using(crate::proofs::Healthy::coinst_plain))]
 pub fn are_coinstallable(alloc: Global, suite: &Suite, wanted: &[u32]) -> Result<bool, AllocError>
-    ensures { IfOk result (λ r. IsTrue r ↔ CoinstStanzas suite.now.home suite.now.packages (has wanted.now)) }
+    ensures { IfOk result (λ r. IsTrue r
+        ↔ CoinstStanzas suite.now.home suite.now.packages (has wanted.now)) }
 {
     let plain = plain_repository(alloc, suite)?;
     is_coinst(
@@ -52,8 +56,10 @@ fn repository(
     stanzas: &[PackageFacts],
 ) -> Result<PlainRepository, AllocError>
     requires { length stanzas.now ≤ most_packages }
-    ensures clauses { IfOk result (λ plain. plain.clauses ≡ (suite_repository home.now stanzas.now).clauses) }
-    ensures conflicts { IfOk result (λ plain. plain.conflicts ≡ (suite_repository home.now stanzas.now).conflicts) }
+    ensures clauses { IfOk result (λ plain. plain.clauses
+        ≡ (suite_repository home.now stanzas.now).clauses) }
+    ensures conflicts { IfOk result (λ plain. plain.conflicts
+        ≡ (suite_repository home.now stanzas.now).conflicts) }
 {
     Ok(PlainRepository {
         clauses: rows(alloc, home, stanzas)?,
@@ -104,11 +110,13 @@ fn clause(
     Ok(clause)
 }
 
-// The first place at which the clause is not behind the one that stands there.
+// The first place whose clause does not come before the given one.
 fn place_of(row: &[NumList], clause: &[u32]) -> usize
     ensures within { result ≤ length row.now }
-    ensures before { (k : ℕ) → k < result → comes_before (slice_index_or row.now k []) clause.now ≡ true }
-    ensures stop { result < length row.now → comes_before (slice_index_or row.now result []) clause.now ≡ false }
+    ensures before { (k : ℕ) → k < result →
+        comes_before (slice_index_or row.now k []) clause.now ≡ true }
+    ensures stop { result < length row.now →
+        comes_before (slice_index_or row.now result []) clause.now ≡ false }
 {
     for (place, other) in row.iter().enumerate() {
         if !is_before(other.as_slice(), clause) {
@@ -127,7 +135,7 @@ fn is_before_place(clause: &[u32], row: &[NumList], place: usize) -> bool
     is_before(clause, row[place].as_slice())
 }
 
-// Puts a clause into its place among clauses in order, where it is not there yet.
+// Puts a clause into its place among clauses in order, if it is not there yet.
 #[tactic(auto, using(crate::proofs::Places::placed_same, crate::proofs::Places::placed_new))]
 fn place(row: &mut Vec<NumList>, clause: NumList) -> Result<(), AllocError>
     ensures { OnOk result (row.new.items ≡ insert_clause clause row.old.items) }
@@ -148,7 +156,8 @@ fn row(
     elements: &[AtomList],
 ) -> Result<ClauseList, AllocError>
     requires { length stanzas.now ≤ most_packages }
-    ensures { IfOk result (λ r. r ≡ in_row_order (map (clause_of home.now stanzas.now) elements.now)) }
+    ensures { IfOk result (λ r. r
+        ≡ in_row_order (map (clause_of home.now stanzas.now) elements.now)) }
 {
     let mut row = Vec::new(alloc);
     let mut left = elements.len();
@@ -189,7 +198,8 @@ fn rows(
     stanzas: &[PackageFacts],
 ) -> Result<Listed<ClauseList>, AllocError>
     requires { length stanzas.now ≤ most_packages }
-    ensures { IfOk result (λ r. r ≡ map (λ n. row_of home.now stanzas.now (stanza_at stanzas.now n)) (packages_of stanzas.now)) }
+    ensures { IfOk result (λ r. r ≡ map (λ n.
+        row_of home.now stanzas.now (stanza_at stanzas.now n)) (packages_of stanzas.now)) }
 {
     let mut rows = Listed::new(alloc);
     for number in 0..count(stanzas) {
@@ -200,7 +210,9 @@ fn rows(
 
 // Whether two packages have one name, or one meets a conflict of the other.
 fn disagree(home: &Home, first: &PackageFacts, second: &PackageFacts) -> bool
-    ensures { result ≡ (bytes_eq first.now.name second.now.name || (stands_against home.now first.now second.now || stands_against home.now second.now first.now)) }
+    ensures { result
+        ≡ (bytes_eq first.now.name second.now.name || (stands_against home.now first.now second.now
+        || stands_against home.now second.now first.now)) }
 {
     first.name.as_slice() == second.name.as_slice()
         || meets_any(home, second, first.against.as_slice())
@@ -244,7 +256,8 @@ fn conflicts(
     stanzas: &[PackageFacts],
 ) -> Result<Listed<NumList>, AllocError>
     requires { length stanzas.now ≤ most_packages }
-    ensures { IfOk result (λ r. r ≡ map (conflicting_with home.now stanzas.now) (packages_of stanzas.now)) }
+    ensures { IfOk result (λ r. r
+        ≡ map (conflicting_with home.now stanzas.now) (packages_of stanzas.now)) }
 {
     let mut conflicts = Listed::new(alloc);
     for number in 0..count(stanzas) {

@@ -1,6 +1,6 @@
-//! How far an index is read that comes in pieces.
+//! How far an index that comes in pieces is read.
 //!
-//! A piece is read where it lies, but for the stanzas at both of its ends.
+//! A piece is read in place, without a copy, except for the stanzas at both of its ends.
 ghost use Rattle.std.specs.Prelude.{◌≡◌, ◌≤◌, drop, length};
 ghost use Rattle.repo_model.specs.{Building.{IsBuilt, IsBuilt-prop}, Limits.{most_packages}};
 
@@ -11,7 +11,8 @@ use crate::reading::{ReadPart, read_behind};
 use crate::suite::Suite;
 use std::alloc::Global;
 
-/// The packages of the stanzas that are closed, the number of the line behind them, and the bytes from there on.
+/// The packages of the stanzas that are closed, the number of the line after them, and the bytes
+/// from there on.
 #[derive(Drop)]
 pub(crate) struct Progress {
     pub(crate) building: Building,
@@ -27,7 +28,7 @@ impl Progress {
     ghost use Rattle.stanza_reader.specs.Close.{IsClosed};
     ghost use Rattle.repo_model.specs.{Feeding.{IsOpen, IsProgress, IsSuiteOf, StandsUnlessMemory}, FirstFault.{first_fault}, Refusals.{Refuses}};
 
-    /// Nothing was read; it takes no memory.
+    /// Nothing was read.
     pub(crate) fn new(alloc: Global) -> Self
         ensures stands { IsProgress result [] }
         ensures line { result.line ≡ 1 }
@@ -41,12 +42,14 @@ impl Progress {
         }
     }
 
-    /// Takes a piece behind the pending bytes, and reads the stanzas that it closes.
+    /// Takes a piece after the pending bytes, and reads the stanzas that it closes.
     pub(crate) fn add(self, alloc: Global, piece: &[u8]) -> Result<Self, IndexFault>
         requires room { self.line + length self.pending.items + length piece.now ≤ 1073741825 }
         requires unclosed { IsOpen self.pending.items }
-        ensures stands { (text : List ℕ) → IsProgress self text → StandsUnlessMemory result (text ++ piece.now) }
-        ensures fits { IfOk result (λ new. new.line + length new.pending.items ≤ self.line + length self.pending.items + length piece.now) }
+        ensures stands { (text : List ℕ) → IsProgress self text →
+            StandsUnlessMemory result (text ++ piece.now) }
+        ensures fits { IfOk result (λ new. new.line + length new.pending.items
+            ≤ self.line + length self.pending.items + length piece.now) }
         ensures unclosed { IfOk result (λ new. IsOpen new.pending.items) }
     {
         let count = first_closed(piece);
@@ -55,12 +58,14 @@ impl Progress {
         begun.go_on(alloc, more)
     }
 
-    /// Takes a piece: where nothing is pending, it is read where it lies.
+    /// Takes a piece. If nothing is pending, it is read in place.
     fn go_on(self, alloc: Global, piece: &[u8]) -> Result<Self, IndexFault>
         requires room { self.line + length self.pending.items + length piece.now ≤ 1073741825 }
         requires unclosed { IsOpen self.pending.items }
-        ensures stands { (text : List ℕ) → IsProgress self text → StandsUnlessMemory result (text ++ piece.now) }
-        ensures fits { IfOk result (λ new. new.line + length new.pending.items ≤ self.line + length self.pending.items + length piece.now) }
+        ensures stands { (text : List ℕ) → IsProgress self text →
+            StandsUnlessMemory result (text ++ piece.now) }
+        ensures fits { IfOk result (λ new. new.line + length new.pending.items
+            ≤ self.line + length self.pending.items + length piece.now) }
         ensures unclosed { IfOk result (λ new. IsOpen new.pending.items) }
     {
         if self.pending.as_slice().is_empty() {
@@ -69,12 +74,14 @@ impl Progress {
         self.hold(alloc, piece)
     }
 
-    /// Takes a piece where nothing is pending: the stanzas that it closes are read where they lie.
+    /// Takes a piece when nothing is pending: the stanzas that it closes are read in place.
     fn pass(self, alloc: Global, piece: &[u8]) -> Result<Self, IndexFault>
         requires room { self.line + length piece.now ≤ 1073741825 }
         requires nothing { self.pending.items ≡ [] }
-        ensures stands { (text : List ℕ) → IsProgress self text → StandsUnlessMemory result (text ++ piece.now) }
-        ensures fits { IfOk result (λ new. new.line + length new.pending.items ≤ self.line + length piece.now) }
+        ensures stands { (text : List ℕ) → IsProgress self text →
+            StandsUnlessMemory result (text ++ piece.now) }
+        ensures fits { IfOk result (λ new. new.line + length new.pending.items
+            ≤ self.line + length piece.now) }
         ensures unclosed { IfOk result (λ new. IsOpen new.pending.items) }
     {
         let closed = closed_length(piece, 0);
@@ -83,12 +90,13 @@ impl Progress {
         read.hold(alloc, last)
     }
 
-    /// Reads a part where it lies, behind which none of its stanzas goes on. Nothing is pending, before or after.
+    /// Reads, in place, a part after which no stanza goes on. Nothing is pending, before or after.
     fn read(self, alloc: Global, part: &[u8]) -> Result<Self, IndexFault>
         requires room { self.line + length part.now ≤ 1073741825 }
         requires nothing { self.pending.items ≡ [] }
         requires closed { IsClosed part.now }
-        ensures stands { (text : List ℕ) → IsProgress self text → StandsUnlessMemory result (text ++ part.now) }
+        ensures stands { (text : List ℕ) → IsProgress self text →
+            StandsUnlessMemory result (text ++ part.now) }
         ensures fits { IfOk result (λ new. new.line ≤ self.line + length part.now) }
         ensures nothing { IfOk result (λ new. new.pending.items ≡ []) }
     {
@@ -106,12 +114,14 @@ impl Progress {
         })
     }
 
-    /// Puts bytes behind the pending ones, and reads the stanzas that they close from there.
+    /// Appends bytes to the pending ones, and reads the stanzas that they close from there.
     fn hold(self, alloc: Global, piece: &[u8]) -> Result<Self, IndexFault>
         requires room { self.line + length self.pending.items + length piece.now ≤ 1073741825 }
         requires unclosed { IsOpen self.pending.items }
-        ensures stands { (text : List ℕ) → IsProgress self text → StandsUnlessMemory result (text ++ piece.now) }
-        ensures fits { IfOk result (λ new. new.line + length new.pending.items ≤ self.line + length self.pending.items + length piece.now) }
+        ensures stands { (text : List ℕ) → IsProgress self text →
+            StandsUnlessMemory result (text ++ piece.now) }
+        ensures fits { IfOk result (λ new. new.line + length new.pending.items
+            ≤ self.line + length self.pending.items + length piece.now) }
         ensures unclosed { IfOk result (λ new. IsOpen new.pending.items) }
     {
         let Progress {
@@ -133,14 +143,15 @@ impl Progress {
         grown.close(alloc, closed)
     }
 
-    /// Reads the first pending bytes, so many that no stanza of theirs goes on behind them.
+    /// Reads the first `closed` pending bytes, after which no stanza goes on.
     fn close(self, alloc: Global, closed: usize) -> Result<Self, IndexFault>
         requires room { self.line + length self.pending.items ≤ 1073741825 }
         requires within { closed ≤ length self.pending.items }
         requires closed { IsClosed (take closed self.pending.items) }
         requires unclosed { IsOpen (drop closed self.pending.items) }
         ensures stands { (text : List ℕ) → IsProgress self text → StandsUnlessMemory result text }
-        ensures fits { IfOk result (λ new. new.line + length new.pending.items ≤ self.line + length self.pending.items) }
+        ensures fits { IfOk result (λ new. new.line + length new.pending.items
+            ≤ self.line + length self.pending.items) }
         ensures unclosed { IfOk result (λ new. IsOpen new.pending.items) }
     {
         let Progress {
@@ -162,8 +173,10 @@ impl Progress {
     /// The suite of all bytes, or their first fault.
     pub(crate) fn finish(self, alloc: Global) -> Result<Suite, IndexFault>
         requires { self.line + length self.pending.items ≤ 1073741825 }
-        ensures refused { IfErr result (λ fault. (text : List ℕ) → IsProgress self text → Refuses fault (first_fault text)) }
-        ensures suite { IfOk result (λ suite. (text : List ℕ) → IsProgress self text → IsSuiteOf text suite.packages suite.home.name) }
+        ensures refused { IfErr result (λ fault. (text : List ℕ) → IsProgress self text →
+            Refuses fault (first_fault text)) }
+        ensures suite { IfOk result (λ suite. (text : List ℕ) → IsProgress self text →
+            IsSuiteOf text suite.packages suite.home.name) }
     {
         let Progress {
             building,
@@ -175,8 +188,8 @@ impl Progress {
     }
 }
 
-/// Takes the first bytes away. The list keeps its room: to give back a large block for each piece makes the C library join all
-/// small blocks that lie free.
+/// Removes the first bytes. The list keeps its room: to give back a large block for each piece
+/// makes the C library join all small blocks that are free.
 fn drop_front(bytes: &mut Vec<u8>, count: usize)
     requires { count ≤ length bytes.old.items }
     ensures { bytes.new.items ≡ drop count bytes.old.items }

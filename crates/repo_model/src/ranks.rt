@@ -1,6 +1,7 @@
 //! Clauses in their order.
 //!
-//! All clauses are put in order once, and each has its place among them as its rank. A row is then put in order by numbers.
+//! All clauses are put in order once, and each has its place among them as its rank. A row is then
+//! put in order by numbers.
 ghost use Rattle.std.specs.{Prelude.{◌≡◌, ◌<◌, ℕ, IfOk, map, length, slice_index_or}, Ordering.{is_lt}};
 ghost use Rattle.clause_pool.specs.{Interned.{clause_at, IsPool, OfPool}, Clauses.{comes_before}};
 ghost use Rattle.listed.specs.Lists.{In};
@@ -10,7 +11,7 @@ use clause_pool::{ClauseId, Pool};
 use std::alloc::{AllocError, Global};
 use std::cmp::Ordering;
 
-/// Distinct clauses in their order, and for each of many clauses its place among them.
+/// Distinct clauses in their order, and for each of a list of clauses its place among them.
 #[derive(Drop)]
 pub(crate) struct Ranks {
     pub(crate) order: Vec<ClauseId>,
@@ -41,7 +42,7 @@ fn in_order(alloc: Global, pool: &Pool, ids: &[ClauseId]) -> Result<Vec<ClauseId
     Ok(order)
 }
 
-// How the clauses of two ids stand in lexicographic order.
+// How the clauses of two ids compare in lexicographic order.
 #[tactic(auto, using(clause_pool::proofs::Compared::before_compared))]
 fn order_of(pool: &Pool, one: ClauseId, other: ClauseId) -> Ordering
     ensures { is_lt result ≡ comes_before (clause_at pool.now one) (clause_at pool.now other) }
@@ -49,7 +50,7 @@ fn order_of(pool: &Pool, one: ClauseId, other: ClauseId) -> Ordering
     clause_of_id(pool, one).cmp(clause_of_id(pool, other))
 }
 
-// The clause of an id; an id of no clause has the empty one.
+// The clause of an id; for an id without a clause it is the empty one.
 fn clause_of_id(pool: &Pool, id: ClauseId) -> &[u32]
     ensures { result.now ≡ clause_at pool.now id }
 {
@@ -59,7 +60,7 @@ fn clause_of_id(pool: &Pool, id: ClauseId) -> &[u32]
     &[]
 }
 
-// For each of so many clauses its place in the order, where it has one.
+// For each of `count` clauses its place in the order, if it has one.
 fn places_of(alloc: Global, count: usize, order: &[ClauseId]) -> Result<Vec<u32>, AllocError>
     requires within { (id : ℕ) → In id order.now → id < count }
     requires once { EachIdOnce order.now }
@@ -79,7 +80,8 @@ fn places_of(alloc: Global, count: usize, order: &[ClauseId]) -> Result<Vec<u32>
 // The place of each of the ids.
 fn places_at(alloc: Global, places: &[u32], ids: &[ClauseId]) -> Result<Vec<u32>, AllocError>
     requires { (id : ℕ) → In id ids.now → id < length places.now }
-    ensures { IfOk result (λ ranks. ranks.items ≡ map (λ id. slice_index_or places.now id 0) ids.now) }
+    ensures { IfOk result (λ ranks. ranks.items
+        ≡ map (λ id. slice_index_or places.now id 0) ids.now) }
 {
     let mut ranks = Vec::with_capacity(alloc, ids.len())?;
     for id in ids {

@@ -1,6 +1,6 @@
 //! Stanzas that are read one after the other.
 //!
-//! The count comes first, so one stanza too many is answered before its lines are looked at.
+//! The count comes first, so one stanza too many is found before its lines are looked at.
 ghost use Rattle.std.specs.{Prelude.{◌≡◌, ◌≤◌, ◌+◌, ◌++◌, List, ℕ, length, drop, count_by, nat_le, IfOk, IfErr}, Option.{option_and_then}};
 ghost use Rattle.stanza_reader.specs.{Lines.{is_line_feed}, Places.{IsPlace}, Reading.{first_reading, readings_at}, declared.place.Place.{Place}};
 ghost use Rattle.repo_model.specs.{Building.{IsBuilt}, Feeding.{IsFront, IsSuiteOf}, FirstFault.{first_fault}, Refusals.{Refuses}, Reading.{shape_fault, Goes}};
@@ -12,14 +12,15 @@ use crate::fault::IndexFault;
 use stanza_reader::{Next, Place, StanzaFault, next_stanza};
 use std::alloc::Global;
 
-/// What was read with a part of an index, and the number of the line behind this part.
+/// What was read with a part of an index, and the number of the line after this part.
 #[derive(Drop)]
 pub(crate) struct ReadPart {
     pub(crate) building: Building,
     pub(crate) line: u64,
 }
 
-/// Reads the stanzas of a part of an index, whose first line has the number, behind the front that was read.
+/// Reads the stanzas of a part of an index, after the front that was read. The first line of the
+/// part has the number.
 pub(crate) fn read_behind(
     alloc: Global,
     front: Building,
@@ -30,8 +31,10 @@ pub(crate) fn read_behind(
     requires place { IsPlace part.now (record { offset = 0; line = line }) }
     requires few { length front.packages ≤ most_packages }
     requires built { IsBuilt front }
-    ensures refused { IfErr result (λ fault. (text : List ℕ) → IsFront front line text → Refuses fault (first_fault (text ++ part.now))) }
-    ensures suite { IfOk result (λ read. (text : List ℕ) → IsFront front line text → IsSuiteOf (text ++ part.now) read.building.packages read.building.home.name) }
+    ensures refused { IfErr result (λ fault. (text : List ℕ) → IsFront front line text →
+        Refuses fault (first_fault (text ++ part.now))) }
+    ensures suite { IfOk result (λ read. (text : List ℕ) → IsFront front line text →
+        IsSuiteOf (text ++ part.now) read.building.packages read.building.home.name) }
     ensures few { IfOk result (λ read. length read.building.packages ≤ most_packages) }
     ensures built { IfOk result (λ read. IsBuilt read.building) }
     ensures counted { IfOk result (λ read. read.line ≡ line + count_by is_line_feed part.now) }
@@ -53,7 +56,7 @@ pub(crate) fn read_behind(
     }
 }
 
-// The number of the line behind a text, by a place in it; only what stands behind the place is looked at.
+// The line number after a text, counted from a known place.
 fn line_behind(bytes: &[u8], at: Place) -> u64
     requires { IsPlace bytes.now at }
     ensures { result ≡ at.line + count_by is_line_feed (drop at.offset bytes.now) }
@@ -61,11 +64,13 @@ fn line_behind(bytes: &[u8], at: Place) -> u64
     at.line + count_feeds(&bytes[at.offset as usize..])
 }
 
-// The stanza at a place behind so many others, or that it is one too many, or the fault of its lines.
+// The stanza at a place after `before` others. It may be one too many, or its lines may have a
+// fault.
 fn read_next(alloc: Global, bytes: &[u8], at: Place, before: usize) -> Result<Next, IndexFault>
     requires { IsPlace bytes.now at }
     ensures next { IfOk result (Goes bytes.now at before) }
-    ensures refused { IfErr result (λ fault. Refuses fault (option_and_then (shape_fault before) (first_reading (readings_at bytes.now at)))) }
+    ensures refused { IfErr result (λ fault. Refuses fault
+        (option_and_then (shape_fault before) (first_reading (readings_at bytes.now at)))) }
 {
     match next_stanza(alloc, bytes, at) {
         Ok(Next::End) => Ok(Next::End),
@@ -85,7 +90,7 @@ fn read_next(alloc: Global, bytes: &[u8], at: Place, before: usize) -> Result<Ne
     }
 }
 
-/// Whether an index with so many packages has room for no more.
+/// Whether an index with this number of packages has room for no more.
 pub(crate) fn is_full(packages: usize) -> bool
     ensures { result ≡ nat_le most_packages packages }
 {

@@ -18,7 +18,8 @@ pub(crate) fn read_field<T: ElementReader>(
     kind: FieldKind,
 ) -> Result<Listed<T::Said>, IndexFault>
     requires { AllByRecursion IsShort fields.now }
-    ensures said { Answers result (option_and_then (unless_said T.reading) (field_among kind fields.now)) (said_in T.reading (value_among kind fields.now)) }
+    ensures said { Answers result (option_and_then (unless_said T.reading)
+        (field_among kind fields.now)) (said_in T.reading (value_among kind fields.now)) }
     ensures reads { IfOk result (λ said. T.reads reader.old said reader.new) }
 {
     let Some(field) = find_field(fields, kind) else {
@@ -32,7 +33,7 @@ pub(crate) fn read_field<T: ElementReader>(
     }
 }
 
-/// What one relation field says, and behind it what another says.
+/// What one relation field says, followed by what another says.
 pub(crate) fn read_both<T: ElementReader>(
     alloc: Global,
     reader: &mut T,
@@ -41,7 +42,10 @@ pub(crate) fn read_both<T: ElementReader>(
     second: FieldKind,
 ) -> Result<Listed<T::Said>, IndexFault>
     requires { AllByRecursion IsShort fields.now }
-    ensures said { Answers result (option_or (option_and_then (unless_said T.reading) (field_among first fields.now)) (option_and_then (unless_said T.reading) (field_among second fields.now))) (said_in T.reading (value_among first fields.now) ++ said_in T.reading (value_among second fields.now)) }
+    ensures said { Answers result (option_or (option_and_then (unless_said T.reading)
+        (field_among first fields.now)) (option_and_then (unless_said T.reading)
+        (field_among second fields.now))) (said_in T.reading (value_among first fields.now)
+        ++ said_in T.reading (value_among second fields.now)) }
     ensures reads { IfOk result (λ said. T.reads reader.old said reader.new) }
 {
     let mut said = read_field(alloc, reader, fields, first)?;

@@ -12,10 +12,11 @@ use row_book::Book;
 use std::alloc::{AllocError, Global};
 
 impl Suite {
-    /// The repository of the packages, as a book over the pool: what the pool held stays, and it gains the rows of the
-    /// book and their clauses alone. Where no memory is found, what the pool held stays.
+    /// The repository of the packages, as a book over the pool. The pool gains only the rows of the
+    /// book and their clauses. What it held stays, even without memory.
     pub fn book(&self, alloc: Global, pool: &mut Pool) -> Result<Book, AllocError>
-        ensures repository { IfOk result (λ book. repository_of pool.new book ≡ suite_repository self.now.home self.now.packages) }
+        ensures repository { IfOk result (λ book. repository_of pool.new book
+            ≡ suite_repository self.now.home self.now.packages) }
         ensures sound { IfOk result (Sound pool.new) }
         ensures kept { Kept pool.old pool.new }
         ensures only { IfOk result (λ book. AddsOnly pool.old pool.new book.rows) }

@@ -1,6 +1,7 @@
 //! The rows of packages: their clauses, interned in a pool.
 //!
-//! The clause of each distinct element is made once, and all clauses are put in order once (ranks.rt).
+//! The clause of each distinct element is made once, and all clauses are put in order once
+//! (ranks.rt).
 ghost use Rattle.std.specs.Prelude.{◌≡◌, ◌<◌, ◌∷◌, ◌↔◌, ℕ, [], IfOk, OnOk, map, length, slice_index_or};
 ghost use Rattle.clause_pool.specs.{Interned.{Kept}, Clauses.{in_row_order}};
 ghost use Rattle.listed.specs.Lists.{Ascending, In};
@@ -17,7 +18,8 @@ use relation_fields::{AtomList, Home, PackageFacts, SharedElements};
 use std::alloc::{AllocError, Global};
 use virtual_provides::NameTable;
 
-/// The rows of the packages, of which these are the elements; the pool gains these rows and their clauses alone.
+/// The rows of the packages, given their elements. The pool gains only these rows and their
+/// clauses.
 pub(crate) fn intern_rows(
     alloc: Global,
     pool: &mut Pool,
@@ -28,7 +30,8 @@ pub(crate) fn intern_rows(
 ) -> Result<Vec<RowId>, AllocError>
     requires built { IsBuiltFrom packages.now names.now }
     requires elements { elements_of elements.now ≡ needs_of_all packages.now }
-    ensures rows { IfOk result (λ rows. HasRows pool.old pool.new (map (row_of home.now packages.now) packages.now) rows.items) }
+    ensures rows { IfOk result (λ rows.
+        HasRows pool.old pool.new (map (row_of home.now packages.now) packages.now) rows.items) }
     ensures kept { Kept pool.old pool.new }
 {
     let distinct = elements.distinct.as_slice();
@@ -55,7 +58,8 @@ fn clause_ids(
     elements: &[AtomList],
 ) -> Result<Vec<ClauseId>, AllocError>
     requires { IsBuiltFrom packages.now names.now }
-    ensures ids { IfOk result (λ ids. HasIds pool.old pool.new (map (clause_of home.now packages.now) elements.now) ids.items) }
+    ensures ids { IfOk result (λ ids.
+        HasIds pool.old pool.new (map (clause_of home.now packages.now) elements.now) ids.items) }
     ensures kept { Kept pool.old pool.new }
 {
     let mut ids = Vec::with_capacity(alloc, elements.len())?;
@@ -74,7 +78,7 @@ struct RowRoom {
 }
 
 impl RowRoom {
-    // Room for an empty row; it takes no memory.
+    // Room for an empty row.
     fn new(alloc: Global) -> Self {
         RowRoom {
             ranks: Vec::new(alloc),
@@ -83,7 +87,7 @@ impl RowRoom {
     }
 }
 
-// The row of the clauses of these marks.
+// The row of the clauses with these marks.
 fn intern_row(
     pool: &mut Pool,
     room: &mut RowRoom,
@@ -92,7 +96,8 @@ fn intern_row(
 ) -> Result<RowId, AllocError>
     requires ranked { IsRanking pool.old ranks.now }
     requires marks { (mark : ℕ) → In mark marks.now → mark < length ranks.now.ranks.items }
-    ensures row { IfOk result (λ row. HasRows pool.old pool.new (in_row_order (clauses_marked pool.old ranks.now marks.now) ∷ []) (row ∷ [])) }
+    ensures row { IfOk result (λ row. HasRows pool.old pool.new
+        (in_row_order (clauses_marked pool.old ranks.now marks.now) ∷ []) (row ∷ [])) }
     ensures clauses { pool.new.clauses ≡ pool.old.clauses }
     ensures kept { Kept pool.old pool.new }
 {
@@ -102,11 +107,12 @@ fn intern_row(
     Ok(row)
 }
 
-// Puts the distinct ranks of the marks into the list, in their order.
+// Fills the list with the distinct ranks of the marks, in their order.
 fn note_ranks(made: &mut Vec<u32>, ranks: &[u32], marks: &[u32]) -> Result<(), AllocError>
     requires { (mark : ℕ) → In mark marks.now → mark < length ranks.now }
     ensures ascending { OnOk result (Ascending made.new.items) }
-    ensures same { OnOk result ((rank : ℕ) → In rank made.new.items ↔ In rank (map (λ mark. slice_index_or ranks.now mark 0) marks.now)) }
+    ensures same { OnOk result ((rank : ℕ) → In rank made.new.items
+        ↔ In rank (map (λ mark. slice_index_or ranks.now mark 0) marks.now)) }
 {
     made.clear();
     for mark in marks {
@@ -116,7 +122,7 @@ fn note_ranks(made: &mut Vec<u32>, ranks: &[u32], marks: &[u32]) -> Result<(), A
     Ok(())
 }
 
-// Puts the ids of the ranks into the list.
+// Fills the list with the ids of the ranks.
 fn note_ids(made: &mut Vec<ClauseId>, order: &[ClauseId], ranks: &[u32]) -> Result<(), AllocError>
     requires { (rank : ℕ) → In rank ranks.now → rank < length order.now }
     ensures { OnOk result (made.new.items ≡ ids_of_ranks order.now ranks.now) }

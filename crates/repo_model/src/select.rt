@@ -11,10 +11,12 @@ use std::alloc::{AllocError, Global};
 use virtual_provides::NameTable;
 
 impl Suite {
-    /// The suite of the packages whose flags are up, in their order and with the same common architecture.
+    /// The suite of the packages whose flags are up, in their order and with the same common
+    /// architecture.
     pub fn select(&self, alloc: Global, flags: &[bool]) -> Result<Suite, AllocError>
         requires { length flags.now ≡ length self.now.packages }
-        ensures packages { IfOk result (λ suite. suite.packages ≡ items_where_true flags.now self.now.packages) }
+        ensures packages { IfOk result (λ suite. suite.packages
+            ≡ items_where_true flags.now self.now.packages) }
         ensures home { IfOk result (λ suite. suite.home ≡ self.now.home) }
     {
         let all = self.packages.as_slice();
@@ -30,8 +32,8 @@ impl Suite {
         })
     }
 
-    /// The suite of the packages whose flags are up, and behind them those of another suite whose flags are up, each in their order, with
-    /// a common architecture.
+    /// The suite of the packages whose flags are up, followed by those of another suite whose flags
+    /// are up. Each are in their order, and they have a common architecture.
     pub fn join(
         &self,
         alloc: Global,
@@ -42,8 +44,10 @@ impl Suite {
     ) -> Result<Suite, AllocError>
         requires flags { length flags.now ≡ length self.now.packages }
         requires others { length others.now ≡ length other.now.packages }
-        requires few { length (items_where_true flags.now self.now.packages) + length (items_where_true others.now other.now.packages) ≤ most_packages }
-        ensures packages { IfOk result (λ suite. suite.packages ≡ items_where_true flags.now self.now.packages ++ items_where_true others.now other.now.packages) }
+        requires few { length (items_where_true flags.now self.now.packages)
+            + length (items_where_true others.now other.now.packages) ≤ most_packages }
+        ensures packages { IfOk result (λ suite. suite.packages ≡ items_where_true flags.now
+            self.now.packages ++ items_where_true others.now other.now.packages) }
         ensures home { IfOk result (λ suite. suite.home ≡ home) }
     {
         let all = self.packages.as_slice();
@@ -93,7 +97,8 @@ fn flagged_elements(
 ) -> Result<SharedElements, AllocError>
     requires flags { length flags.now ≡ length packages.now }
     requires elements { elements_of elements.now ≡ needs_of_all packages.now }
-    ensures { IfOk result (λ made. elements_of made ≡ needs_of_all (items_where_true flags.now packages.now)) }
+    ensures { IfOk result (λ made. elements_of made
+        ≡ needs_of_all (items_where_true flags.now packages.now)) }
 {
     let distinct = elements.distinct.as_slice();
     let mut places = no_places(alloc, distinct.len())?;
@@ -111,7 +116,7 @@ fn flagged_elements(
     Ok(made)
 }
 
-// Puts the elements of others behind these.
+// Appends the elements of others.
 fn put_elements(
     alloc: Global,
     made: &mut SharedElements,
@@ -125,7 +130,7 @@ fn put_elements(
     Ok(())
 }
 
-// So many lists, of which none has a place yet.
+// For each list of a number of lists a place, with none known.
 fn no_places(alloc: Global, count: usize) -> Result<Vec<Option<u32>>, AllocError>
     ensures size { IfOk result (λ made. length made.items ≡ count) }
     ensures none { IfOk result (λ made. (mark : ℕ) → slice_index_or made.items mark None ≡ None) }
@@ -137,7 +142,7 @@ fn no_places(alloc: Global, count: usize) -> Result<Vec<Option<u32>>, AllocError
     Ok(made)
 }
 
-// Puts the elements of these marks behind the others.
+// Appends the elements with these marks.
 fn add_elements(
     made: &mut SharedElements,
     places: &mut [Option<u32>],
@@ -146,7 +151,8 @@ fn add_elements(
 ) -> Result<(), AllocError>
     requires marks { (mark : ℕ) → In mark marks.now → mark < length distinct.now }
     requires renamed { AreRenamed distinct.now places.old made.old.distinct.items }
-    ensures elements { OnOk result (elements_of made.new ≡ elements_of made.old ++ marked distinct.now marks.now) }
+    ensures elements { OnOk result (elements_of made.new
+        ≡ elements_of made.old ++ marked distinct.now marks.now) }
     ensures renamed { OnOk result (AreRenamed distinct.now places.new made.new.distinct.items) }
 {
     for mark in marks {
@@ -155,7 +161,7 @@ fn add_elements(
     Ok(())
 }
 
-// Puts the element of a mark behind the others. Its list is kept once.
+// Appends the element with a mark. Its list is kept once.
 fn add_element(
     made: &mut SharedElements,
     places: &mut [Option<u32>],
@@ -164,7 +170,8 @@ fn add_element(
 ) -> Result<(), AllocError>
     requires mark { mark < length distinct.now }
     requires renamed { AreRenamed distinct.now places.old made.old.distinct.items }
-    ensures elements { OnOk result (elements_of made.new ≡ elements_of made.old ++ slice_index_or distinct.now mark [] ∷ []) }
+    ensures elements { OnOk result (elements_of made.new
+        ≡ elements_of made.old ++ slice_index_or distinct.now mark [] ∷ []) }
     ensures renamed { OnOk result (AreRenamed distinct.now places.new made.new.distinct.items) }
 {
     if let Some(place) = places[mark] {

@@ -21,45 +21,50 @@ pub type PackageList = Listed<PackageFacts>;
 pub struct Suite {
     /// The packages, in the order of their stanzas.
     pub packages: PackageList,
-    /// The common architecture of those that are not of `all`.
+    /// The common architecture of the packages that are not of `all`.
     pub home: Home,
-    // The elements of the packages' needs, one package's behind the other's.
+    // The elements of the packages' needs, those of one package after those of another.
     pub(crate) elements: SharedElements,
     // The register of the packages and of what they provide, by names and versions.
     pub(crate) names: NameTable,
     ghost few: { length packages ≤ most_packages },
-    ghost shared: { elements_of elements ≡ needs_of_all packages } by { needs-prop (elements_of elements) packages },
+    ghost shared: { elements_of elements
+        ≡ needs_of_all packages } by { needs-prop (elements_of elements) packages },
     ghost named: { IsBuiltFrom packages names } by { IsBuiltFrom-prop packages names },
 }
 
 impl Suite {
-    /// The number of packages; it takes no memory.
+    /// The number of packages.
     pub fn count(&self) -> u32
         ensures { result ≡ length self.now.packages }
     {
         self.packages.as_slice().len() as u32
     }
 
-    /// The name of the package of a number, from 0, below the count; it takes no memory.
+    /// The name of the package with a number, from 0.
     pub fn name(&self, i: u32) -> &[u8]
         requires { i < length self.now.packages }
-        ensures { option_map (λ facts. facts.name) (slice_get self.now.packages i) ≡ Some result.now }
+        ensures { option_map (λ facts. facts.name) (slice_get self.now.packages i)
+            ≡ Some result.now }
     {
         self.packages.as_slice()[i as usize].name.as_slice()
     }
 
-    /// The version of the package of a number, from 0, below the count, as it is written; it takes no memory.
+    /// The version of the package with a number, from 0, as it is written.
     pub fn version_text(&self, i: u32) -> &[u8]
         requires { i < length self.now.packages }
-        ensures { option_map (λ facts. facts.version) (slice_get self.now.packages i) ≡ Some result.now }
+        ensures { option_map (λ facts. facts.version) (slice_get self.now.packages i)
+            ≡ Some result.now }
     {
         self.packages.as_slice()[i as usize].version.text()
     }
 }
 
-/// Reads a whole index: the packages of its stanzas and their common architecture, or the fault of the first stanza that
-/// has one. An index has at most 1,073,741,824 bytes, the limit that the program keeps for files. Time is linear in the
-/// index, but for the ordered set of a stanza's field names.
+/// Reads a whole index: the packages of its stanzas and their common architecture, or the fault of
+/// the first stanza that has one.
+///
+/// An index has at most 1,073,741,824 bytes, the limit that the program keeps for files. Time is
+/// linear in the index, but for the ordered set of a stanza's field names.
 pub fn read_suite(alloc: Global, bytes: &[u8]) -> Result<Suite, IndexFault>
     requires { length bytes.now ≤ most_bytes }
     ensures refused { IfErr result (λ fault. Refuses fault (first_fault bytes.now)) }

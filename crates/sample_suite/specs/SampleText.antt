@@ -26,9 +26,10 @@ abbrev pub conflicts_lines : Option ℕ → List (List ℕ)
 conflicts_lines None = []
 conflicts_lines (Some conflict) = (codes "Conflicts: " ++ package_name conflict) ∷ []
 
--- the lines of a stanza, without the empty one behind them
+-- the lines of a stanza, without the empty one after them
 abbrev pub stanza_lines : ℕ → SamplePackage → List (List ℕ)
-stanza_lines number p = (codes "Package: " ++ package_name number) ∷ codes "Version: 1" ∷ (depends_lines p.needs ++ conflicts_lines p.conflict)
+stanza_lines number p = (codes "Package: " ++ package_name number) ∷ codes "Version: 1"
+    ∷ (depends_lines p.needs ++ conflicts_lines p.conflict)
 
 -- lines, each with its line feed
 abbrev pub lines_text : List (List ℕ) → List ℕ
@@ -37,11 +38,11 @@ lines_text lines = flat_map (λ line. line ++ 10 ∷ []) lines
 abbrev pub stanza_text : ℕ → SamplePackage → List ℕ
 stanza_text number p = lines_text (stanza_lines number p) ++ 10 ∷ []
 
--- the stanzas of packages that are numbered from the first one's number on
+-- the stanzas of packages, numbered from the first one's number on
 unfoldable pub stanzas_text : ℕ → List SamplePackage → List ℕ
 stanzas_text number [] = []
 stanzas_text number (p ∷ more) = stanza_text number p ++ stanzas_text (number + 1) more
 
--- the index of a suite of so many packages
+-- the index of a suite of `count` packages
 unfoldable pub sample_text : ℕ → ℕ → List ℕ
 sample_text seed count = stanzas_text 0 (sample_packages seed count)

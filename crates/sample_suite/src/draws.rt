@@ -1,4 +1,7 @@
 //! Draws of a linear congruential generator.
+//!
+//! Its constants are Knuth's for 64 bits. A draw takes the upper bits of the state, as the lower
+//! ones repeat soon. The generator is written here so that a seed gives the same suite everywhere.
 ghost use Rattle.std.specs.Prelude.{◌≡◌, ◌<◌, IfOk, OnOk};
 ghost use Rattle.sample_suite.specs.Drawing.{draw, draws, draw_element, draw_needs, draw_package, draw_conflict};
 
@@ -29,11 +32,13 @@ impl Draws {
         ((self.state >> 33) % u64::from(most)) as u32
     }
 
-    // Draws so many numbers below another.
+    // Draws `times` numbers below another.
     fn numbers(&mut self, alloc: Global, most: u32, times: u32) -> Result<NumList, AllocError>
         requires { 0 < most }
-        ensures value { IfOk result (λ numbers. numbers ≡ (draws (draw most) times self.old.state).value) }
-        ensures state { OnOk result (self.new.state ≡ (draws (draw most) times self.old.state).state) }
+        ensures value { IfOk result (λ numbers. numbers
+            ≡ (draws (draw most) times self.old.state).value) }
+        ensures state { OnOk result (self.new.state
+            ≡ (draws (draw most) times self.old.state).state) }
     {
         let mut numbers = NumList::new(alloc);
         for _ in 0..times {
@@ -45,18 +50,21 @@ impl Draws {
     // Draws the alternatives of an element.
     fn element(&mut self, alloc: Global, count: u32) -> Result<NumList, AllocError>
         requires { 0 < count }
-        ensures value { IfOk result (λ alternatives. alternatives ≡ (draw_element count self.old.state).value) }
+        ensures value { IfOk result (λ alternatives. alternatives
+            ≡ (draw_element count self.old.state).value) }
         ensures state { OnOk result (self.new.state ≡ (draw_element count self.old.state).state) }
     {
         let more = self.below(2);
         self.numbers(alloc, count, more + 1)
     }
 
-    // Draws so many elements.
+    // Draws `times` elements.
     fn elements(&mut self, alloc: Global, count: u32, times: u32) -> Result<ClauseList, AllocError>
         requires { 0 < count }
-        ensures value { IfOk result (λ elements. elements ≡ (draws (draw_element count) times self.old.state).value) }
-        ensures state { OnOk result (self.new.state ≡ (draws (draw_element count) times self.old.state).state) }
+        ensures value { IfOk result (λ elements. elements
+            ≡ (draws (draw_element count) times self.old.state).value) }
+        ensures state { OnOk result (self.new.state
+            ≡ (draws (draw_element count) times self.old.state).state) }
     {
         let mut elements = ClauseList::new(alloc);
         for _ in 0..times {
@@ -75,7 +83,7 @@ impl Draws {
         self.elements(alloc, count, chance / 2)
     }
 
-    // Draws the package that another conflicts with, where it does.
+    // Draws the package that another conflicts with, if there is to be one.
     fn conflict(&mut self, count: u32) -> Option<u32>
         requires { 0 < count }
         ensures value { result ≡ (draw_conflict count self.old.state).value }

@@ -1,4 +1,4 @@
-//! A law of samples: the function does nothing, its contract is the law.
+//! A law of samples. The function does nothing: its contract is the law.
 ghost use Rattle.sample_suite.specs.Laws.{SamplesAreAccepted};
 
 /// The index of a sample suite has no fault, for every seed and every count from 1 to 200,000.

@@ -1,4 +1,5 @@
-//! Suites made from a number: a large index of packages that are drawn, which is always accepted.
+//! Suites made from a number: an index of up to 200,000 packages that are drawn, which is always
+//! accepted.
 #![tactic(auto)]
 
 mod draws;

@@ -1,4 +1,4 @@
-//! The stanza of a package, put behind a text.
+//! The stanza of a package, appended to a text.
 ghost use Rattle.std.specs.{Prelude.{◌≡◌, ◌++◌, ◌∷◌, [], OnOk, codes, map}, List.{flat_map}};
 ghost use Rattle.sample_suite.specs.SampleText.{conflicts_lines, depends_lines, element_text, joined_by, lines_text, needs_text, package_name, stanza_text};
 
@@ -7,7 +7,7 @@ use clause_pool::NumList;
 use itoa::Buffer;
 use std::alloc::AllocError;
 
-// Puts the name of a package behind the text.
+// Appends the name of a package.
 #[tactic(auto, using(std::proofs::Common::append_assoc))]
 fn push_name(out: &mut Vec<u8>, number: u32) -> Result<(), AllocError>
     ensures { OnOk result (out.new.items ≡ out.old.items ++ package_name number) }
@@ -17,7 +17,7 @@ fn push_name(out: &mut Vec<u8>, number: u32) -> Result<(), AllocError>
     out.extend_from_slice(buffer.format(number).as_bytes())
 }
 
-// Puts an element behind the text.
+// Appends an element.
 #[tactic(auto, using(std::proofs::Common::append_assoc))]
 fn push_element(out: &mut Vec<u8>, alternatives: &[u32]) -> Result<(), AllocError>
     ensures { OnOk result (out.new.items ≡ out.old.items ++ element_text alternatives.now) }
@@ -29,9 +29,10 @@ fn push_element(out: &mut Vec<u8>, alternatives: &[u32]) -> Result<(), AllocErro
     push_alternatives(out, more)
 }
 
-// Puts the alternatives behind the first one behind the text.
+// Appends the alternatives after the first one.
 fn push_alternatives(out: &mut Vec<u8>, more: &[u32]) -> Result<(), AllocError>
-    ensures { OnOk result (out.new.items ≡ out.old.items ++ flat_map (λ other. codes " | " ++ other) (map package_name more.now)) }
+    ensures { OnOk result (out.new.items
+        ≡ out.old.items ++ flat_map (λ other. codes " | " ++ other) (map package_name more.now)) }
 {
     for other in more {
         push_alternative(out, *other)?;
@@ -47,7 +48,7 @@ fn push_alternative(out: &mut Vec<u8>, number: u32) -> Result<(), AllocError>
     push_name(out, number)
 }
 
-// Puts the line of what is needed behind the text, where something is.
+// Appends the line of what is needed, if anything is.
 fn push_depends(out: &mut Vec<u8>, needs: &[NumList]) -> Result<(), AllocError>
     ensures { OnOk result (out.new.items ≡ out.old.items ++ lines_text (depends_lines needs.now)) }
 {
@@ -59,7 +60,7 @@ fn push_depends(out: &mut Vec<u8>, needs: &[NumList]) -> Result<(), AllocError>
     out.extend_from_slice(b"\n")
 }
 
-// Puts what is needed behind the text.
+// Appends what is needed.
 #[tactic(auto, using(std::proofs::Common::append_assoc))]
 fn push_needs(out: &mut Vec<u8>, needs: &[NumList]) -> Result<(), AllocError>
     ensures { OnOk result (out.new.items ≡ out.old.items ++ needs_text needs.now) }
@@ -71,9 +72,10 @@ fn push_needs(out: &mut Vec<u8>, needs: &[NumList]) -> Result<(), AllocError>
     push_elements(out, more)
 }
 
-// Puts the elements behind the first one behind the text.
+// Appends the elements after the first one.
 fn push_elements(out: &mut Vec<u8>, more: &[NumList]) -> Result<(), AllocError>
-    ensures { OnOk result (out.new.items ≡ out.old.items ++ flat_map (λ other. codes ", " ++ other) (map element_text more.now)) }
+    ensures { OnOk result (out.new.items
+        ≡ out.old.items ++ flat_map (λ other. codes ", " ++ other) (map element_text more.now)) }
 {
     for other in more {
         push_next_element(out, other.as_slice())?;
@@ -83,13 +85,14 @@ fn push_elements(out: &mut Vec<u8>, more: &[NumList]) -> Result<(), AllocError>
 
 #[tactic(auto, using(std::proofs::Common::append_assoc))]
 fn push_next_element(out: &mut Vec<u8>, alternatives: &[u32]) -> Result<(), AllocError>
-    ensures { OnOk result (out.new.items ≡ out.old.items ++ (codes ", " ++ element_text alternatives.now)) }
+    ensures { OnOk result (out.new.items
+        ≡ out.old.items ++ (codes ", " ++ element_text alternatives.now)) }
 {
     out.extend_from_slice(b", ")?;
     push_element(out, alternatives)
 }
 
-// Puts the line of a conflict behind the text, where there is one.
+// Appends the line of a conflict, if there is one.
 fn push_conflicts(out: &mut Vec<u8>, conflict: Option<u32>) -> Result<(), AllocError>
     ensures { OnOk result (out.new.items ≡ out.old.items ++ lines_text (conflicts_lines conflict)) }
 {
@@ -101,7 +104,7 @@ fn push_conflicts(out: &mut Vec<u8>, conflict: Option<u32>) -> Result<(), AllocE
     out.extend_from_slice(b"\n")
 }
 
-/// Puts the stanza of a package behind the text.
+/// Appends the stanza of a package.
 #[tactic(auto, using(std::proofs::Common::append_assoc, crate::proofs::Pieces::lines_joined))]
 pub(crate) fn push_stanza(
     out: &mut Vec<u8>,

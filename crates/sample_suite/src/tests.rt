@@ -10,21 +10,30 @@ const SUITES: [(u64, u32, &str); 4] = [
     (
         1,
         3,
-        "Package: p0\nVersion: 1\nDepends: p0 | p0, p2\n\nPackage: p1\nVersion: 1\nDepends: p1 | p0\n\nPackage: p2\nVersion: 1\nDepends: p2\nConflicts: p1\n\n",
+        "Package: p0\nVersion: 1\nDepends: p0 | p0, p2\n\n\
+         Package: p1\nVersion: 1\nDepends: p1 | p0\n\n\
+         Package: p2\nVersion: 1\nDepends: p2\nConflicts: p1\n\n",
     ),
     (
         14,
         4,
-        "Package: p0\nVersion: 1\nDepends: p1\n\nPackage: p1\nVersion: 1\n\nPackage: p2\nVersion: 1\nDepends: p1 | p1, p3 | p2\nConflicts: p3\n\nPackage: p3\nVersion: 1\n\n",
+        "Package: p0\nVersion: 1\nDepends: p1\n\n\
+         Package: p1\nVersion: 1\n\n\
+         Package: p2\nVersion: 1\nDepends: p1 | p1, p3 | p2\nConflicts: p3\n\n\
+         Package: p3\nVersion: 1\n\n",
     ),
     (
         18_446_744_073_709_551_615,
         5,
-        "Package: p0\nVersion: 1\nDepends: p2 | p2\nConflicts: p2\n\nPackage: p1\nVersion: 1\n\nPackage: p2\nVersion: 1\nConflicts: p3\n\nPackage: p3\nVersion: 1\nDepends: p3\n\nPackage: p4\nVersion: 1\n\n",
+        "Package: p0\nVersion: 1\nDepends: p2 | p2\nConflicts: p2\n\n\
+         Package: p1\nVersion: 1\n\n\
+         Package: p2\nVersion: 1\nConflicts: p3\n\n\
+         Package: p3\nVersion: 1\nDepends: p3\n\n\
+         Package: p4\nVersion: 1\n\n",
     ),
 ];
 
-// The text, where so many packages may be asked for.
+// The text, if a suite may have this number of packages.
 fn text_of(alloc: Global, seed: u64, count: u32) -> Option<Vec<u8>> {
     if count < 1 || count > 200_000 {
         return None;

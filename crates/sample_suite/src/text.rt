@@ -7,7 +7,7 @@ use crate::draws::Draws;
 use crate::push_stanza::push_stanza;
 use std::alloc::{AllocError, Global};
 
-/// The index of a suite of so many packages, made from a number; it has no fault.
+/// The index of a suite of `count` packages, made from a number; it has no fault.
 pub fn sample_text(alloc: Global, seed: u64, count: u32) -> Result<Vec<u8>, AllocError>
     requires { IsCount count }
     ensures text { IfOk result (λ text. text.items ≡ sample_text seed count) }

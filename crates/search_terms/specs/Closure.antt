@@ -1,6 +1,7 @@
--- Signed classes, sentences, and the closure of a set of signed classes under unit steps, as a least set: the unit
--- propagation of Davis, Putnam, Logemann and Loveland. A sentence is a list of signed classes, of which one at least is to hold;
--- a formula is a list of sentences. A set contradicts a signed class where it has the class with the other sign.
+-- Signed classes, sentences, and the closure of a set of signed classes under unit steps, as a
+-- least set: the unit propagation of Davis, Putnam, Logemann and Loveland.
+-- A sentence is a list of signed classes; at least one is to hold. A formula is a list of
+-- sentences. A set contradicts a signed class if it has the class with the other sign.
 use Rattle.std.specs.{Prelude.{◌≡◌, ℕ, ◌<◌, Bool, true, false, not, ◌&&◌, ◌||◌, ◌==◌, ◌⊎◌, List, All, Any}, List.{list_all, list_any}}
 use Rattle.search_terms.specs.declared.literals.Literal.{Literal}
 
@@ -43,14 +44,18 @@ HasGiven set given = All (λ l. set l ≡ true) given
 
 -- the literal is in each closed set that holds the given ones
 abbrev pub InClosure : List (List Literal) → List Literal → Literal → Type 0
-InClosure formula given l = (set : Literal → Bool) → HasGiven set given → IsUnitClosed formula set → set l ≡ true
+InClosure formula given l = (set : Literal → Bool) → HasGiven set given →
+    IsUnitClosed formula set → set l ≡ true
 
--- the set is the closure of the given literals: the least set that holds them and is closed under unit steps
-pub record IsClosure (formula : List (List Literal)) (given : List Literal) (set : Literal → Bool) : Type 0 where
+-- the set is the closure of the given literals: the least set that holds them and is closed under
+-- unit steps
+pub record IsClosure (formula : List (List Literal)) (given : List Literal)
+    (set : Literal → Bool) : Type 0 where
   pub sound : (l : Literal) → set l ≡ true → InClosure formula given l
   pub whole : (l : Literal) → InClosure formula given l → set l ≡ true
 
--- the closure of the given literals clashes: it has a class with both signs, or contradicts each literal of a sentence
+-- the closure of the given literals clashes: it has a class with both signs, or contradicts each
+-- literal of a sentence
 abbrev pub Clashes : List (List Literal) → List Literal → Type 0
 Clashes formula given =
     ((l : Literal) × InClosure formula given l × InClosure formula given (negation l))
@@ -60,7 +65,8 @@ Clashes formula given =
 abbrev pub InRange : ℕ → List (List Literal) → Type 0
 InRange classes formula = All (λ sentence. All (λ l. l.class < classes) sentence) formula
 
--- a set of classes makes the literal true: a class of the set, or the negation of another
+-- a set of classes makes the literal true: its class is in the set if it is positive, and is not if
+-- it is negative
 abbrev pub satisfies : (ℕ → Bool) → Literal → Bool
 satisfies v l = same_sign l.positive (v l.class)
 
@@ -68,6 +74,6 @@ satisfies v l = same_sign l.positive (v l.class)
 abbrev pub Models : (ℕ → Bool) → List (List Literal) → Type 0
 Models v formula = All (λ sentence. list_any (satisfies v) sentence ≡ true) formula
 
--- nothing makes all sentences true
+-- no set of classes makes all sentences true
 abbrev pub HaveNoModel : List (List Literal) → Type 0
 HaveNoModel formula = (v : ℕ → Bool) → Models v formula → ⊥

@@ -1,4 +1,4 @@
--- What the bodies of the search and of the checker, and the proofs, speak of besides.
+-- Further words for the bodies of the search and of the checker, and for the proofs.
 use Rattle.std.specs.Prelude.{◌≡◌, ℕ, zero, suc, ◌+◌, ◌*◌, Bool, true, false, ◌==◌, ◌⊎◌, List, map, slice_index_or, Contains, if◌then◌else◌}
 use Rattle.std.specs.List.{list_any, range_with_len}
 use Rattle.search_terms.specs.{declared.literals.Literal.{Literal}, Closure.{literal, negation, forces, is_refuted}}
@@ -7,7 +7,7 @@ use Rattle.search_terms.specs.{declared.literals.Literal.{Literal}, Closure.{lit
 abbrev pub HasBoth : (Literal → Bool) → Type 0
 HasBoth set = (l : Literal) × (set l ≡ true) × (set (negation l) ≡ true)
 
--- a set clashes by itself; of the closure this is that the given literals clash
+-- a set clashes by itself; for a closure this says that the given literals clash
 abbrev pub HasClash : List (List Literal) → (Literal → Bool) → Type 0
 HasClash formula set = HasBoth set ⊎ (list_any (is_refuted set) formula ≡ true)
 
@@ -20,14 +20,16 @@ abbrev pub IsConsistent : (Literal → Bool) → Type 0
 IsConsistent set = (l : Literal) → set l ≡ true → set (negation l) ≡ true → ⊥
 
 -- a sentence forces the literal, which is not in the set
-pub record IsForced (formula : List (List Literal)) (set : Literal → Bool) (l : Literal) : Type 0 where
+pub record IsForced (formula : List (List Literal)) (set : Literal → Bool)
+    (l : Literal) : Type 0 where
   pub sentence : List Literal
   pub here : Contains formula sentence
   pub member : Contains sentence l
   pub forced : forces set l sentence ≡ true
   pub absent : set l ≡ false
 
--- Marks are two flags for each class, the negative sign's first.
+-- Marks are two flags for each class, the one of the negative sign first.
+--
 -- the place of a literal's flag
 abbrev pub flag_place : Literal → ℕ
 flag_place l = l.class * 2 + (if l.positive then 1 else 0)
@@ -40,10 +42,11 @@ is_marked flags l = slice_index_or flags (flag_place l) false
 abbrev pub is_decided : ℕ → List Literal → Bool
 is_decided c decisions = list_any (λ l. l.class == c) decisions
 
--- how many of so many classes have no decision
+-- how many of the classes below a number have no decision
 abbrev pub classes_left : ℕ → List Literal → ℕ
 classes_left zero decisions = 0
-classes_left (suc n) decisions = (if is_decided n decisions then 0 else 1) + classes_left n decisions
+classes_left (suc n) decisions =
+    (if is_decided n decisions then 0 else 1) + classes_left n decisions
 
 -- the flags of the true classes of a set
 abbrev pub true_classes : ℕ → (Literal → Bool) → List Bool

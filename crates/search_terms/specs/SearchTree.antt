@@ -1,4 +1,5 @@
--- The search tree of a formula, computed: a unit step puts in one literal, and a node asks for one class.
+-- The search tree of a formula, computed: a unit step adds one literal, and a node asks for one
+-- class.
 use Rattle.std.specs.Prelude.{ℕ, zero, suc, ◌*◌, Bool, true, false, not, ◌&&◌, ◌||◌, List, [], ◌∷◌, ◌++◌, map, if◌then◌else◌, Option, Some, None}
 use Rattle.std.specs.{List.{list_any, find, range_with_len}, Option.{option_map, option_map_or, option_and_then}}
 use Rattle.row_book.specs.Flattening.{first_some}
@@ -17,14 +18,15 @@ abbrev pub with_unit : (Literal → Bool) → Option Literal → Literal → Boo
 with_unit set None = set
 with_unit set (Some l) = λ m. set m || is_same m l
 
--- the set after so many unit steps
+-- the set after a number of unit steps
 abbrev pub unit_steps : ℕ → List (List Literal) → (Literal → Bool) → Literal → Bool
 unit_steps zero formula set = set
 unit_steps (suc n) formula set = unit_steps n formula (with_unit set (next_unit formula set))
 
--- the closure of the given literals: there are two literals of each class, and so at most as many unit steps
+-- the closure of the given literals: two unit steps for each class are enough
 abbrev pub closure_of : ℕ → List (List Literal) → List Literal → Literal → Bool
-closure_of classes formula given = unit_steps (classes * 2) formula (λ m. list_any (is_same m) given)
+closure_of classes formula given =
+    unit_steps (classes * 2) formula (λ m. list_any (is_same m) given)
 
 -- the set has a class with both signs, or contradicts each literal of a sentence
 abbrev pub does_clash : ℕ → List (List Literal) → (Literal → Bool) → Bool
@@ -34,25 +36,27 @@ does_clash classes formula set =
 
 -- the class of the first undecided member of the first open need
 abbrev pub next_class : List (List Literal) → (Literal → Bool) → Option ℕ
-next_class formula set = option_map (λ l. l.class) (option_and_then (find (is_undecided set)) (find (is_open_need set) formula))
+next_class formula set = option_map (λ l. l.class)
+    (option_and_then (find (is_undecided set)) (find (is_open_need set) formula))
 
--- the node whose closure is the set: a failed leaf where it clashes, a found leaf where it leaves no class to ask for, and
--- otherwise a split on that class
+-- The node whose closure is the set. It is a failed leaf if the set clashes, and a found leaf if no
+-- class is left to ask for. Otherwise it is a split on that class.
 abbrev pub node_at : ℕ → List (List Literal) → (Literal → Bool) → (ℕ → Tree) → Tree
 node_at classes formula set split_on =
     if does_clash classes formula set then failed_leaf
     else option_map_or split_on (next_class formula set) (found_leaf (true_classes classes set))
 
--- the tree below these decisions, true first and then false; it goes no deeper than so many further decisions, and as many as
--- there are classes are enough
+-- The tree below these decisions, true first and then false. It goes no deeper than a number of
+-- further decisions; the number of classes is enough.
 abbrev pub tree_below : ℕ → ℕ → List (List Literal) → List Literal → Tree
-tree_below zero classes formula decisions = node_at classes formula (closure_of classes formula decisions) (λ c. failed_leaf)
+tree_below zero classes formula decisions =
+    node_at classes formula (closure_of classes formula decisions) (λ c. failed_leaf)
 tree_below (suc n) classes formula decisions =
     node_at classes formula (closure_of classes formula decisions) (λ c.
     split c
     (tree_below n classes formula (decisions ++ literal c true ∷ []))
     (tree_below n classes formula (decisions ++ literal c false ∷ [])))
 
--- the search tree of a formula on so many classes
+-- the search tree of a formula over a number of classes
 unfoldable pub search_tree : ℕ → List (List Literal) → Tree
 search_tree classes formula = tree_below classes classes formula []

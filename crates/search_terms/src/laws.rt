@@ -1,4 +1,4 @@
-//! The laws of search trees and logs: the functions do nothing, the contract of each is one law.
+//! The laws of search trees and logs. The functions do nothing: the contract of each is one law.
 ghost use Rattle.search_terms.specs.Laws.{TreeIsThere, TreeIsOne, SearchTreeIs, BudgetIsEnough, SmallTreesAreWalked, LogIsShort, FoundIsModel, LogDerives, DerivesNoModel, DerivesNoSolution, ModelsAreHealthy, FindsHealthy};
 ghost use Rattle.search_terms.specs.Local.{TreeIsLocal};
 
@@ -17,7 +17,7 @@ pub fn search_tree_is()
     ensures { SearchTreeIs }
 {}
 
-/// No tree has more failed leaves than two to the number of classes.
+/// No tree has more failed leaves than two to the power of the number of classes.
 pub fn budget_is_enough()
     ensures { BudgetIsEnough }
 {}
@@ -27,7 +27,8 @@ pub fn small_trees_are_walked()
     ensures { SmallTreesAreWalked }
 {}
 
-/// A log has one entry less than twice as many as the tree has failed leaves.
+/// The log of a tree that finds nothing has one entry less than twice the number of its failed
+/// leaves.
 pub fn log_is_short()
     ensures { LogIsShort }
 {}
@@ -57,7 +58,7 @@ pub fn models_are_healthy()
     ensures { ModelsAreHealthy }
 {}
 
-/// A tree finds something exactly where some healthy set hits every goal.
+/// A tree finds something exactly if some healthy set hits every goal.
 pub fn finds_healthy()
     ensures { FindsHealthy }
 {}

@@ -1,5 +1,6 @@
-//! The terms of the search: signed classes, the formula of a repository and a list of goals with its sentences, the search
-//! tree of a formula with its failed leaves and its log, what a log derives, and the laws of these.
+//! The terms of the search. First come signed classes, and the formula of a repository and a list
+//! of goals with its sentences. Then there is the search tree of a formula with its failed leaves
+//! and its log. Last is what a log derives, and the laws of these.
 #![tactic(auto)]
 
 mod laws;

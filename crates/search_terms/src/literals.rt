@@ -20,7 +20,7 @@ pub type LiteralList = Listed<Literal>;
 /// The entries of a log.
 pub type EntryList = Listed<LiteralList>;
 
-/// A refutation: entries each of which follows by unit steps from the formula and the entries before it.
+/// A refutation: each entry follows by unit steps from the formula and the entries before it.
 #[derive(Drop)]
 pub struct Log {
     /// The entries in their order; in a refutation the last one is empty.
@@ -31,7 +31,7 @@ impl Literal {
     ghost use Rattle.std.specs.Prelude.{◌≡◌};
     ghost use Rattle.search_terms.specs.{Closure.{negation, is_same}, Marks.{flag_place}};
 
-    /// The class with the other sign; it takes no memory.
+    /// The class with the other sign.
     pub fn negation(self) -> Literal
         ensures { result ≡ negation self }
     {
@@ -41,7 +41,7 @@ impl Literal {
         }
     }
 
-    /// Whether both are one; it takes no memory.
+    /// Whether both are one.
     pub fn is_same(self, other: Literal) -> bool
         ensures { result ≡ is_same self other }
     {
@@ -53,7 +53,7 @@ impl Literal {
             }
     }
 
-    /// The place of the literal among flags of which each class has two; it takes no memory.
+    /// The place of the literal among flags, two for each class.
     pub fn place(self) -> usize
         ensures { result ≡ flag_place self }
     {
@@ -61,7 +61,7 @@ impl Literal {
     }
 }
 
-/// The literals with their other signs; it fails only where no memory is found.
+/// The literals with their other signs.
 pub fn negated(alloc: Global, literals: &[Literal]) -> Result<Vec<Literal>, AllocError>
     ensures { IfOk result (λ v. v.items ≡ map negation literals.now) }
 {

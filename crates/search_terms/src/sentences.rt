@@ -10,7 +10,7 @@ use listed::Listed;
 use row_book::Needs;
 use std::alloc::{AllocError, Global};
 
-/// The members of a clause, each chosen.
+/// The members of a clause as chosen classes.
 fn members(alloc: Global, clause: &[u32]) -> Result<Vec<Literal>, AllocError>
     ensures { IfOk result (λ v. v.items ≡ goal_sentence clause.now) }
 {
@@ -23,7 +23,7 @@ fn members(alloc: Global, clause: &[u32]) -> Result<Vec<Literal>, AllocError>
         .collect(alloc)
 }
 
-/// The sentence of a clause of a class.
+/// The sentence of a clause of a class: the class is not chosen, or a member of the clause is.
 fn sentence_of(alloc: Global, owner: u32, clause: &[u32]) -> Result<LiteralList, AllocError>
     ensures { IfOk result (λ s. s ≡ clause_sentence owner clause.now) }
 {
@@ -37,7 +37,7 @@ fn sentence_of(alloc: Global, owner: u32, clause: &[u32]) -> Result<LiteralList,
     Ok(Listed::of(items))
 }
 
-/// The sentences of goals; it fails only where no memory is found.
+/// The sentences of goals.
 pub fn goal_sentences(alloc: Global, goals: &Needs) -> Result<Vec<LiteralList>, AllocError>
     ensures sentences { IfOk result (λ v. v.items ≡ map goal_sentence goals.now) }
     ensures needs { AreNeeds goals.now }
@@ -49,7 +49,7 @@ pub fn goal_sentences(alloc: Global, goals: &Needs) -> Result<Vec<LiteralList>, 
     Ok(made)
 }
 
-/// Puts the sentences of the clauses of a row behind the others.
+/// Appends the sentences of the clauses of a row.
 fn add_row(
     alloc: Global,
     pool: &Pool,
@@ -58,7 +58,8 @@ fn add_row(
     all: &mut Vec<LiteralList>,
 ) -> Result<(), AllocError>
     requires { OfPool pool.now ids.now }
-    ensures { OnOk result (all.new.items ≡ all.old.items ++ map (clause_sentence owner) (clauses_at pool.now ids.now)) }
+    ensures { OnOk result (all.new.items
+        ≡ all.old.items ++ map (clause_sentence owner) (clauses_at pool.now ids.now)) }
 {
     for id in ids {
         all.push(sentence_of(alloc, owner, pool.slice(*id))?)?;
@@ -66,7 +67,7 @@ fn add_row(
     Ok(())
 }
 
-/// The sentences of the clauses of all rows, the rows numbered from 0; it fails only where no memory is found.
+/// The sentences of the clauses of all rows, numbered from 0.
 pub fn clause_sentences(
     alloc: Global,
     pool: &Pool,
@@ -74,7 +75,8 @@ pub fn clause_sentences(
 ) -> Result<Vec<LiteralList>, AllocError>
     requires few { length rows.now < u32.MAX }
     requires fit { RowsFit pool.now rows.now }
-    ensures { IfOk result (λ v. v.items ≡ owned_sentences clause_sentence 0 (map (row_at pool.now) rows.now)) }
+    ensures { IfOk result (λ v. v.items
+        ≡ owned_sentences clause_sentence 0 (map (row_at pool.now) rows.now)) }
 {
     let mut all = Vec::new(alloc);
     for (owner, row) in rows.iter().enumerate() {

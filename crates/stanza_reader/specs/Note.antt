@@ -11,11 +11,11 @@ abbrev pub key_from : ℕ → List ℕ → ℕ
 key_from key [] = key
 key_from key (b ∷ bs) = key_from ((((key * 31) % 2 ^ 32) + b) % 2 ^ 32) bs
 
--- the number of a long text, of all its bytes
+-- the number of a long text, made of all its bytes
 abbrev pub long_key : List ℕ → ℕ
 long_key text = key_from 0 text
 
--- a byte, where a letter has one number in both cases
+-- a byte with one value for both cases of a letter
 abbrev pub folded : ℕ → ℕ
 folded b = bit_or b 32
 
@@ -23,20 +23,22 @@ folded b = bit_or b 32
 unfoldable pub short_key : List ℕ → ℕ
 short_key text =
     from_be_bytes w32
-    (folded (slice_index text 0) ∷ folded (slice_index text (length text / 2)) ∷ folded (slice_index text (length text - 1)) ∷ length text ∷ [])
+    (folded (slice_index text 0) ∷ folded (slice_index text (length text / 2))
+    ∷ folded (slice_index text (length text - 1)) ∷ length text ∷ [])
 
 -- the number of a text; a text of at most 16 bytes is short
 abbrev pub number_of : List ℕ → ℕ
-number_of text = if length text == 0 || nat_lt 16 (length text) then long_key text else short_key text
+number_of text =
+    if length text == 0 || nat_lt 16 (length text) then long_key text else short_key text
 
--- the number of a name, which knows nothing of the case of letters
+-- the number of a name, without regard to the case of letters
 abbrev pub key_of : List ℕ → ℕ
 key_of name = number_of (lowered name)
 
 abbrev pub IsKeyed : KeyedName → Type 0
 IsKeyed one = one.key ≡ key_of one.name.now
 
--- the mark of a number, one of 64 bits, and its place
+-- the mark of a number, which is one of 64 bits, and the place of that bit
 abbrev pub mark_place : ℕ → ℕ
 mark_place key = (key * 2654435769) % 2 ^ 32 / 2 ^ 26
 
@@ -55,22 +57,25 @@ by_text x y = slice_cmp nat_cmp x.items y.items
 
 -- the set has exactly these names, in lower case
 abbrev pub HasNames : {A : Type 0} → BTreeSet (Vec ℕ A) → List (List ℕ) → Type 0
-HasNames {A} set names = (q : Vec ℕ A) → contains by_text set q ≡ list_any (λ name. bytes_eq (lowered name) q.items) names
+HasNames {A} set names = (q : Vec ℕ A) →
+    contains by_text set q ≡ list_any (λ name. bytes_eq (lowered name) q.items) names
 
--- The names that are held are these, in any order. Only where 64 are compared one by one do others stand in the set.
+-- The names that are held are these, in any order. The set has some only if 64 are compared one by
+-- one.
 pub record Holds (names : Names) (before : List (List ℕ)) : Type 0 where
   pub others : List (List ℕ)
   pub in_set : HasNames names.others others
   pub behind : length names.few.items < 64 → others ≡ []
   pub same : (q : List ℕ) → has_name (names_in names.few.items ++ others) q ≡ has_name before q
 
--- With the lines that are left, the names lead to this repeated one.
+-- The names, and then the lines that are left, lead to this repeated one.
 pub record LeadsTo (names : Names) (left : List Line) (fault : Option StanzaFault) : Type 0 where
   pub before : List (List ℕ)
   pub held : names.repeat ≡ None → Holds names before
   pub found : option_or names.repeat (repeat_fault before left) ≡ fault
 
--- A field line with this name and number is no longer left.
+-- A field line with this name and number was noted, and is no longer left.
 abbrev pub IsNoted : Names → Names → List ℕ → ℕ → Type 0
-IsNoted old new name number = (text : List ℕ) (more : List Line) (fault : Option StanzaFault) → name_of text ≡ name → is_continuation text ≡ false
+IsNoted old new name number = (text : List ℕ) (more : List Line) (fault : Option StanzaFault) →
+    name_of text ≡ name → is_continuation text ≡ false
     → LeadsTo old (record { number = number; text = text } ∷ more) fault → LeadsTo new more fault

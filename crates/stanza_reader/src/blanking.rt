@@ -7,9 +7,8 @@ use crate::lines::line_end;
 use crate::values::is_edge;
 use std::alloc::{AllocError, Global};
 
-/// The text in which each line of each stanza whose flag is down loses its bytes, but not its line feed: it has exactly
-/// the stanzas whose flags are up, with the same line numbers. The lines of the text have no fault, and there is a flag
-/// for each stanza. It fails only where no memory is found.
+/// The text with each line of each stanza whose flag is down made empty, but for its line feed. So
+/// it has exactly the stanzas whose flags are up, with the same line numbers.
 pub fn blank_lines(alloc: Global, bytes: &[u8], keep: &[bool]) -> Result<Vec<u8>, AllocError>
     requires { HasFlags bytes.now keep.now }
     ensures text { IfOk result (λ made. made.items ≡ blanked keep.now bytes.now) }
@@ -28,7 +27,7 @@ pub fn blank_lines(alloc: Global, bytes: &[u8], keep: &[bool]) -> Result<Vec<u8>
     Ok(made)
 }
 
-// The first line of a text, with its line feed where it has one, and what is behind it.
+// The first line of a text, with its line feed if it has one, and what follows it.
 fn first_line(text: &[u8]) -> (&[u8], &[u8])
     requires { 0 < length text.now }
     ensures lines { whole_lines text.now ≡ result.0.now ∷ whole_lines result.1.now }
@@ -42,9 +41,10 @@ fn first_line(text: &[u8]) -> (&[u8], &[u8])
     }
 }
 
-// Puts a line behind others, whole or as its line feed alone.
+// Appends a line, whole or as its line feed alone.
 fn push_line(made: &mut Vec<u8>, line: &[u8], whole: bool) -> Result<(), AllocError>
-    ensures { OnOk result (made.new.items ≡ made.old.items ++ (if whole then line.now else emptied line.now)) }
+    ensures { OnOk result (made.new.items
+        ≡ made.old.items ++ (if whole then line.now else emptied line.now)) }
 {
     if whole {
         made.extend_from_slice(line)?;
@@ -54,14 +54,16 @@ fn push_line(made: &mut Vec<u8>, line: &[u8], whole: bool) -> Result<(), AllocEr
     Ok(())
 }
 
-// Whether the line stays, where these are the flags from its stanza on, or from the next one on.
+// Whether the line stays. The flags begin with that of its stanza, or of the next one if it is
+// blank.
 fn stays(flags: &[bool], line: &[u8]) -> bool
     ensures { result ≡ stays flags.now line.now }
 {
     is_blank_whole(line) || first_flag(flags)
 }
 
-// The flags from the stanza behind a line on, or from the line's own on where its stanza goes on.
+// The flags for the line that comes next: they begin with that of the next stanza once a stanza
+// ends with this line.
 fn flags_behind<'a>(flags: &'a [bool], line: &[u8], more: &[u8]) -> &'a [bool]
     ensures { result.now ≡ flags_behind flags.now line.now (whole_lines more.now) }
 {
@@ -74,7 +76,7 @@ fn flags_behind<'a>(flags: &'a [bool], line: &[u8], more: &[u8]) -> &'a [bool]
     }
 }
 
-// Whether the line is the last one of a stanza, where this text is behind it.
+// Whether a stanza ends with the line, if this text follows it.
 fn ends_stanza(line: &[u8], more: &[u8]) -> bool
     ensures { result ≡ ends_stanza line.now (whole_lines more.now) }
 {
@@ -92,14 +94,14 @@ fn is_at_blank(text: &[u8]) -> bool
     is_blank_whole(line)
 }
 
-// Whether the line has only spaces and tabs beside its line feed.
+// Whether the line has only spaces and tabs besides its line feed.
 fn is_blank_whole(line: &[u8]) -> bool
     ensures { result ≡ is_blank_whole line.now }
 {
     line.iter().all(|byte| is_edge(*byte))
 }
 
-// The first flag; where there is none, it is down.
+// The first flag; if there is none, it is down.
 fn first_flag(flags: &[bool]) -> bool
     ensures { result ≡ first_flag flags.now }
 {

@@ -13,9 +13,10 @@ pub(crate) fn checked_name(line: &[u8], number: u64) -> Result<&[u8], StanzaFaul
     requires { is_continuation line.now ≡ false }
     ensures name { IfOk result (λ name. name.now ≡ name_of line.now) }
     ensures fine { OnOk result (line_fault record { number = number; text = line.now } ≡ None) }
-    ensures fault { IfErr result (λ fault. line_fault record { number = number; text = line.now } ≡ Some fault) }
+    ensures fault { IfErr result (λ fault.
+        line_fault record { number = number; text = line.now } ≡ Some fault) }
 {
-    // Most lines begin with a good name and its colon, which one pass shows.
+    // Most lines begin with a good name and its colon: one pass finds both.
     let len = name_length(line);
     let front = &line[..len];
     if has_colon_behind(line, len) && is_begun_well(front) {

@@ -1,4 +1,4 @@
-//! The front of a text behind which no stanza goes on.
+//! The front of a text after which no stanza goes on.
 
 ghost use Rattle.std.specs.Prelude.{◌≡◌, ℕ, None, IfSome};
 ghost use Rattle.stanza_reader.specs.Close.{IsClosedFront};
@@ -7,8 +7,8 @@ use crate::groups::{skip_blank, skip_group};
 use crate::lines::line_end;
 use crate::place::Place;
 
-/// The length in bytes of the front up to and with the first blank line that ends with a line feed and follows a line
-/// that is not blank; None where there is no such line. It takes no memory.
+/// The length in bytes of the front up to and with the first blank line that ends with a line feed
+/// and follows a line that is not blank. `None` if there is no such line.
 pub fn closed_front(bytes: &[u8]) -> Option<u64>
     ensures front { IfSome result (IsClosedFront bytes.now) }
     ensures none { result ≡ None → (n : ℕ) → IsClosedFront bytes.now n → ⊥ }

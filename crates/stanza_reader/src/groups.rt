@@ -11,7 +11,7 @@ use crate::scan::scan;
 use crate::stanza::RawStanza;
 use std::alloc::Global;
 
-/// The place of the first line from a place on that is not blank, or the end.
+/// The place of the first line, from a place on, that is not blank; or the end.
 #[tactic(auto, using(crate::proofs::PlaceLemmas::counts_on))]
 pub(crate) fn skip_blank(bytes: &[u8], at: Place) -> Place
     requires { IsPlace bytes.now at }
@@ -19,7 +19,8 @@ pub(crate) fn skip_blank(bytes: &[u8], at: Place) -> Place
     ensures onward { at.offset ≤ result.offset }
     ensures counted { CountsOn bytes.now at result }
     ensures lines { lines_at bytes.now result ≡ behind_blank (lines_at bytes.now at) }
-    ensures full { result.offset < length bytes.now → has_line (first_group (lines_at bytes.now result)) ≡ true }
+    ensures full { result.offset < length bytes.now →
+        has_line (first_group (lines_at bytes.now result)) ≡ true }
 {
     let mut next = at;
     while next.offset < bytes.len() as u64 {
@@ -50,7 +51,7 @@ pub(crate) fn skip_group(bytes: &[u8], at: Place) -> Place
     next
 }
 
-/// A group of lines as a stanza, and the place behind them: the first blank line, or the end.
+/// A group of lines as a stanza, and the place after them: the first blank line, or the end.
 #[derive(Drop)]
 pub(crate) struct Group {
     pub(crate) stanza: RawStanza,
@@ -62,12 +63,15 @@ pub(crate) fn read_group(alloc: Global, bytes: &[u8], at: Place) -> Result<Group
     requires place { IsPlace bytes.now at }
     requires more { at.offset < length bytes.now }
     requires full { has_line (first_group (lines_at bytes.now at)) ≡ true }
-    ensures stanza { IfOk result (λ group. stanza_of (first_group (lines_at bytes.now at)) ≡ Ok group.stanza) }
-    ensures fault { IfErr result (λ fault. OnTextFault fault (stanza_of (first_group (lines_at bytes.now at)) ≡ Err fault)) }
+    ensures stanza { IfOk result (λ group. stanza_of (first_group (lines_at bytes.now at))
+        ≡ Ok group.stanza) }
+    ensures fault { IfErr result (λ fault.
+        OnTextFault fault (stanza_of (first_group (lines_at bytes.now at)) ≡ Err fault)) }
     ensures place { IfOk result (λ group. IsPlace bytes.now group.after) }
     ensures onward { IfOk result (λ group. at.offset < group.after.offset) }
     ensures counted { IfOk result (λ group. CountsOn bytes.now at group.after) }
-    ensures lines { IfOk result (λ group. lines_at bytes.now group.after ≡ behind_group (lines_at bytes.now at)) }
+    ensures lines { IfOk result (λ group. lines_at bytes.now group.after
+        ≡ behind_group (lines_at bytes.now at)) }
 {
     let (first, _) = next_line(bytes, at);
     if is_continuation(first) {

@@ -2,12 +2,13 @@
 
 ghost use Rattle.stanza_reader.specs.Close.{ClosedFrontIsClosed, ClosedFrontIsOne, ClosedTextsJoin, ReadsInParts, StanzasInParts};
 
-/// A text reads as its two parts, one after the other, where the first part is closed.
+/// A text reads as its two parts, one after the other, if the first part is closed.
 pub fn reads_in_parts()
     ensures { ReadsInParts }
 {}
 
-/// The stanzas of a text, or its first fault, are those of its two parts, where the first part is closed.
+/// The stanzas of a text, or its first fault, are those of its two parts, if the first part is
+/// closed.
 pub fn stanzas_in_parts()
     ensures { StanzasInParts }
 {}

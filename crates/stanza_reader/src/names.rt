@@ -7,7 +7,7 @@ ghost use Rattle.stanza_reader.specs.Fields.{is_field_name_byte, is_field_name, 
 use crate::stanza::FieldKind;
 use memchr::memchr;
 
-/// The text before the first colon of a line, or the whole line where it has none.
+/// The text before the first colon of a line, or the whole line if it has none.
 pub(crate) fn name_of(line: &[u8]) -> &[u8]
     ensures { result.now ≡ name_of line.now }
 {
@@ -17,7 +17,8 @@ pub(crate) fn name_of(line: &[u8]) -> &[u8]
     }
 }
 
-/// Whether the line has a colon. `name` is the text before the first one, and so the whole line if there is none.
+/// Whether the line has a colon. `name` is the text before the first one, and so the whole line if
+/// there is none.
 pub(crate) fn has_colon(line: &[u8], name: &[u8]) -> bool
     requires { name.now ≡ name_of line.now }
     ensures { result ≡ list_any is_colon line.now }
@@ -38,8 +39,8 @@ pub(crate) fn name_length(line: &[u8]) -> usize
     line.len()
 }
 
-/// Whether a colon follows the first `len` bytes, all of which may stand in a name. They are then the text before the first
-/// colon.
+/// Whether a colon follows the first `len` bytes, which all may stand in a name. They are then the
+/// text before the first colon.
 pub(crate) fn has_colon_behind(line: &[u8], len: usize) -> bool
     requires { list_all is_field_name_byte (take len line.now) ≡ true }
     ensures name { result ≡ true → take len line.now ≡ name_of line.now }
@@ -61,7 +62,8 @@ fn has_name_bytes(text: &[u8]) -> bool
     text.iter().all(|byte| is_name_byte(*byte))
 }
 
-/// Whether a text is the name of a field, if all its bytes may stand in one: its first byte decides.
+/// Whether a text is the name of a field. All its bytes may stand in one, so its first byte
+/// decides.
 pub(crate) fn is_begun_well(text: &[u8]) -> bool
     requires { list_all is_field_name_byte text.now ≡ true }
     ensures { result ≡ is_field_name text.now }
@@ -79,7 +81,8 @@ fn is_name_byte(byte: u8) -> bool
     33 <= byte && byte <= 126 && byte != b':'
 }
 
-/// The kind of the field with this name, if it is one of those that are kept. Names are compared without case.
+/// The kind of the field with this name, if it is one of those that are kept. Names are compared
+/// without case.
 pub(crate) fn kind_of(name: &[u8]) -> Option<FieldKind>
     ensures { result ≡ kind_of name.now }
 {

@@ -1,4 +1,8 @@
 //! The names of a stanza's fields, noted one by one.
+//!
+//! The first 64 are compared one by one. A number of each name and a mark of the numbers seen (a
+//! Bloom filter of 64 bits) make most comparisons needless. Further names go into an ordered set,
+//! so a stanza takes time nearly linear in its length, whatever its names are.
 
 ghost use Rattle.std.specs.Prelude.{◌≡◌, ◌<◌, ◌≤◌, [], ◌∷◌, None, true, not, length, OnOk, IfOk, All, List, ℕ};
 ghost use Rattle.stanza_reader.specs.{Fields.{is_same_name, lowered}, Note.{Holds, IsKeyed, IsMarked, IsNoted, key_of, long_key, mark_of, names_in, short_key}};
@@ -8,32 +12,33 @@ use crate::fault::StanzaFault;
 use std::alloc::{AllocError, Global};
 use std::collections::BTreeSet;
 
-/// So many names are compared one by one. Those behind them stand in an ordered set, so that a stanza takes not much
-/// longer than its length, whatever its names are.
+/// The first names are compared one by one, and further ones stand in an ordered set.
 const FEW: usize = 64;
 
-/// A longer name has a number of all its bytes: to compare two of them takes long, so that few may share one.
+/// The number of a longer name is made of all its bytes. To compare two of them takes long, so few
+/// should share one.
 const SHORT: usize = 16;
 
-/// A name, with a number that it shares with each name that differs from it in the case of letters alone.
+/// A name with its number. Names that differ only in the case of letters have one number.
 #[derive(Clone, Copy)]
 pub(crate) struct KeyedName<'a> {
     pub(crate) key: u32,
     pub(crate) name: &'a [u8],
 }
 
-/// The names of a stanza's field lines, up to the first that an earlier line has, and the fault of that one.
+/// The names of a stanza's field lines, up to the first that an earlier line has; and the fault of
+/// that one.
 #[derive(Drop)]
 pub(crate) struct Names<'a> {
     pub(crate) few: Vec<KeyedName<'a>>,
     pub(crate) others: BTreeSet<Vec<u8>>,
     pub(crate) repeat: Option<StanzaFault>,
-    /// The marks of the numbers of those names that are compared one by one.
+    /// The marks of the numbers of the names that are compared one by one.
     pub(crate) marks: u64,
 }
 
 impl<'a> Names<'a> {
-    /// No name; there is room for those of a common stanza.
+    /// No names, and room for those of a common stanza.
     pub(crate) fn new(alloc: Global) -> Result<Self, AllocError>
         ensures keys { IfOk result (λ names. All IsKeyed names.few.items) }
         ensures marks { IfOk result (λ names. All (IsMarked names.marks) names.few.items) }
@@ -68,14 +73,16 @@ impl<'a> Names<'a> {
         Ok(())
     }
 
-    /// Adds a name where none of the names is this one, and answers whether that is so.
+    /// Adds a name if it is new, and returns whether it was.
     fn add(&mut self, alloc: Global, name: &'a [u8]) -> Result<bool, AllocError>
         requires keys { All IsKeyed self.old.few.items }
         requires marks { All (IsMarked self.old.marks) self.old.few.items }
         ensures keys { OnOk result (All IsKeyed self.new.few.items) }
         ensures marks { OnOk result (All (IsMarked self.new.marks) self.new.few.items) }
-        ensures answer { IfOk result (λ is_new. (before : List (List ℕ)) → Holds self.old before → is_new ≡ not (has_name before name.now)) }
-        ensures added { IfOk result (λ is_new. (before : List (List ℕ)) → Holds self.old before → is_new ≡ true → Holds self.new (name.now ∷ before)) }
+        ensures answer { IfOk result (λ is_new. (before : List (List ℕ)) → Holds self.old before →
+            is_new ≡ not (has_name before name.now)) }
+        ensures added { IfOk result (λ is_new. (before : List (List ℕ)) → Holds self.old before →
+            is_new ≡ true → Holds self.new (name.now ∷ before)) }
         ensures repeat { self.new.repeat ≡ self.old.repeat }
     {
         let key = key_of(name);
@@ -103,8 +110,8 @@ fn key_of(name: &[u8]) -> u32
     }
 }
 
-// The number of a short name: its first byte, one in the middle, the last one and its length. With the bit 32 a letter is
-// the same in both cases.
+// The number of a short name: its first byte, one in the middle, the last one and its length. With
+// the bit 32 set a letter is the same in both cases.
 fn short_key(name: &[u8]) -> u32
     requires some { 0 < length name.now }
     requires short { length name.now ≤ 16 }
@@ -119,7 +126,7 @@ fn short_key(name: &[u8]) -> u32
     ])
 }
 
-// The number of a name, of all its bytes.
+// The number of a long name, made of all its bytes.
 fn long_key(name: &[u8]) -> u32
     ensures { result ≡ long_key (lowered name.now) }
 {
@@ -132,15 +139,15 @@ fn long_key(name: &[u8]) -> u32
     key
 }
 
-// The mark of a number, one of 64 bits.
+// The mark of a number: one of 64 bits.
 fn mark_of(key: u32) -> u64
     ensures { result ≡ mark_of key }
 {
     1u64 << (key.wrapping_mul(2_654_435_769) >> 26)
 }
 
-// Whether one of the names is this one, without regard to the case of letters. None is where the mark of its number is
-// down, as it mostly is.
+// Whether one of the names is this one, without regard to the case of letters. If the mark of its
+// number is down, as it mostly is, none is.
 fn is_among(few: &[KeyedName<'_>], marks: u64, key: u32, name: &[u8]) -> bool
     requires keys { All IsKeyed few.now }
     requires marks { All (IsMarked marks) few.now }
@@ -150,7 +157,7 @@ fn is_among(few: &[KeyedName<'_>], marks: u64, key: u32, name: &[u8]) -> bool
     marks & mark_of(key) != 0 && has_name(few, key, name)
 }
 
-// The same, by a comparison with each one.
+// Whether one of the names is this one, by a comparison with each.
 fn has_name(few: &[KeyedName<'_>], key: u32, name: &[u8]) -> bool
     requires keys { All IsKeyed few.now }
     requires key { key ≡ key_of name.now }

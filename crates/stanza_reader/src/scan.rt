@@ -13,8 +13,8 @@ use crate::place::{Place, next_line};
 use crate::stanza::FieldList;
 use std::alloc::Global;
 
-/// What the lines of a group have: the fault of the first repeated name, or else the kept fields; and the place behind
-/// them, the first blank line or the end.
+/// What the lines of a group have: the fault of the first repeated name, or else the kept fields.
+/// `after` is the place after them, the first blank line or the end.
 #[derive(Drop)]
 pub(crate) struct Found {
     pub(crate) repeat: Option<StanzaFault>,
@@ -22,20 +22,24 @@ pub(crate) struct Found {
     pub(crate) after: Place,
 }
 
-/// Passes once over the lines of the group at a place, up to the first fault of shape. A first line that is a
-/// continuation line is none of these.
+/// Passes once over the lines of the group at a place, up to the first fault of shape. That the
+/// first line is a continuation line is no such fault.
 #[tactic(auto, using(crate::proofs::PlaceLemmas::counts_on))]
 pub(crate) fn scan(alloc: Global, bytes: &[u8], at: Place) -> Result<Found, StanzaFault>
     requires place { IsPlace bytes.now at }
     requires full { has_line (first_group (lines_at bytes.now at)) ≡ true }
     ensures shape { OnOk result (first_line_fault (first_group (lines_at bytes.now at)) ≡ None) }
-    ensures fault { IfErr result (λ fault. OnTextFault fault (first_line_fault (first_group (lines_at bytes.now at)) ≡ Some fault)) }
-    ensures repeat { IfOk result (λ found. found.repeat ≡ repeat_fault [] (first_group (lines_at bytes.now at))) }
-    ensures fields { IfOk result (λ found. found.repeat ≡ None → found.fields ≡ kept_fields (first_group (lines_at bytes.now at))) }
+    ensures fault { IfErr result (λ fault.
+        OnTextFault fault (first_line_fault (first_group (lines_at bytes.now at)) ≡ Some fault)) }
+    ensures repeat { IfOk result (λ found. found.repeat
+        ≡ repeat_fault [] (first_group (lines_at bytes.now at))) }
+    ensures fields { IfOk result (λ found. found.repeat ≡ None →
+        found.fields ≡ kept_fields (first_group (lines_at bytes.now at))) }
     ensures place { IfOk result (λ found. IsPlace bytes.now found.after) }
     ensures onward { IfOk result (λ found. at.offset < found.after.offset) }
     ensures counted { IfOk result (λ found. CountsOn bytes.now at found.after) }
-    ensures lines { IfOk result (λ found. lines_at bytes.now found.after ≡ behind_group (lines_at bytes.now at)) }
+    ensures lines { IfOk result (λ found. lines_at bytes.now found.after
+        ≡ behind_group (lines_at bytes.now at)) }
 {
     let mut fields = FieldList::new(alloc);
     let mut names = Names::new(alloc)?;
@@ -58,7 +62,7 @@ pub(crate) fn scan(alloc: Global, bytes: &[u8], at: Place) -> Result<Found, Stan
             Err(fault) => return Err(fault),
         };
         names.note(alloc, name, at.line)?;
-        // Behind a repeated name nothing is kept, and only a fault of shape still counts.
+        // After a repeated name nothing is kept, and only a fault of shape still counts.
         if names.repeat.is_some() {
             at = after;
             continue;

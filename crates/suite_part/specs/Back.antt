@@ -9,7 +9,10 @@ pub record IsBack (from : Interned) (numbers : List ℕ) (pool : Interned) (id n
   pub within : new < length pool.clauses
   pub is : clause_at pool new ≡ clause_in numbers (clause_at from id)
 
--- a place for each clause of the part, and where an id is known there, it is that of the clause in these numbers
-pub record AreBack (from : Interned) (numbers : List ℕ) (pool : Interned) (known : List (Option ℕ)) : Type 0 where
+-- a place for each clause of the part; an id that is known there is that of the clause in these
+-- numbers
+pub record AreBack (from : Interned) (numbers : List ℕ) (pool : Interned)
+    (known : List (Option ℕ)) : Type 0 where
   pub size : length known ≡ length from.clauses
-  pub each : (id new : ℕ) → slice_index_or known id None ≡ Some new → IsBack from numbers pool id new
+  pub each : (id new : ℕ) → slice_index_or known id None ≡ Some new →
+      IsBack from numbers pool id new

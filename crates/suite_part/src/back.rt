@@ -19,10 +19,12 @@ pub(crate) fn row_back(
 ) -> Result<RowId, AllocError>
     requires row { OfPool from.now row.now }
     requires order { InOrder (clauses_at from.now row.now) }
-    requires within { (c : List ℕ) → In c (clauses_at from.now row.now) → (n : ℕ) → In n c → n < length numbers.now }
+    requires within { (c : List ℕ) → In c (clauses_at from.now row.now) → (n : ℕ) → In n c →
+        n < length numbers.now }
     requires ascending { Ascending numbers.now }
     requires seen { AreBack from.now numbers.now pool.old seen.old.items }
-    ensures row { IfOk result (λ id. row_at pool.new id ≡ clauses_in numbers.now (clauses_at from.now row.now)) }
+    ensures row { IfOk result (λ id. row_at pool.new id
+        ≡ clauses_in numbers.now (clauses_at from.now row.now)) }
     ensures of_pool { IfOk result (λ id. id < length pool.new.rows) }
     ensures seen { OnOk result (AreBack from.now numbers.now pool.new seen.new.items) }
     ensures kept { Kept pool.old pool.new }
@@ -42,10 +44,12 @@ fn ids_back(
     seen: &mut Vec<Option<ClauseId>>,
 ) -> Result<Vec<ClauseId>, AllocError>
     requires row { OfPool from.now row.now }
-    requires within { (c : List ℕ) → In c (clauses_at from.now row.now) → (n : ℕ) → In n c → n < length numbers.now }
+    requires within { (c : List ℕ) → In c (clauses_at from.now row.now) → (n : ℕ) → In n c →
+        n < length numbers.now }
     requires ascending { Ascending numbers.now }
     requires seen { AreBack from.now numbers.now pool.old seen.old.items }
-    ensures ids { IfOk result (λ ids. clauses_at pool.new ids.items ≡ clauses_in numbers.now (clauses_at from.now row.now)) }
+    ensures ids { IfOk result (λ ids. clauses_at pool.new ids.items
+        ≡ clauses_in numbers.now (clauses_at from.now row.now)) }
     ensures of_pool { IfOk result (λ ids. OfPool pool.new ids.items) }
     ensures seen { OnOk result (AreBack from.now numbers.now pool.new seen.new.items) }
     ensures kept { Kept pool.old pool.new }
@@ -58,7 +62,7 @@ fn ids_back(
     Ok(ids)
 }
 
-// The id of a clause of a part in the numbers of the book, which is made where none is known yet.
+// The id of a clause of a part in the numbers of the book. It is made if none is known yet.
 fn clause_back(
     alloc: Global,
     pool: &mut Pool,

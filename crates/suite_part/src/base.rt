@@ -1,5 +1,6 @@
-//! A book of which a part is flattened, so that a part that differs little from it is soon flattened: the rows of packages that name
-//! none but each other, stand in both, and have a conflict in both or in neither, are the same.
+//! A book with a part that is flattened, so that a part that differs little from it is soon
+//! flattened. Some packages name only each other, are in both parts, and have a conflict in both or
+//! in neither. The rows of these are the same in both parts.
 ghost use Rattle.std.specs.Prelude.{length};
 ghost use Rattle.suite_part.specs.BaseRows.{AreBaseRows};
 
@@ -19,11 +20,12 @@ use std::alloc::{AllocError, Global};
 pub struct Base {
     // For each package of the book whether the part has it.
     flags: Vec<bool>,
-    // How many clauses a row of it may have.
+    // The most clauses that a row of it may have.
     limit: u32,
     // The pool of the rows.
     pool: Pool,
-    // For each package of the book its row over the core of the part, in the numbers of the book, or any row if the part lacks the package.
+    // For each package of the book its row over the core of the part, in the numbers of the book.
+    // If the part lacks the package, it is any row.
     rows: Vec<RowId>,
     // Which packages name which in the whole book.
     users: UseTable,
@@ -39,8 +41,8 @@ impl Base {
     ghost use Rattle.row_book.specs.Uses.{uses_of};
     ghost use Rattle.suite_part.specs.{Bases.{first_flags, first_part, AreChanged, FitsIn, IsBase, StandsAlike}, BaseRows.{AreBaseRows}, Mixes.{AreMixRows}};
 
-    /// The base of the first packages of a book, so many, without hold; none where one of their rows has more clauses than the limit allows
-    /// at some stage of flattening.
+    /// The base of the first `count` packages of a book, without hold. `None` if one of their rows
+    /// has more clauses than the limit allows at some stage of flattening.
     pub fn of(
         alloc: Global,
         from: &Pool,
@@ -51,8 +53,11 @@ impl Base {
         requires book { Sound from.now book.now }
         requires count { count ≤ length book.now.rows }
         requires limit { 0 < limit }
-        ensures base { IfOk result (λ base. ForSome base (λ made. IsBase from.now book.now made × (made.flags.items ≡ first_flags count (length book.now.rows)) × (made.limit ≡ limit))) }
-        ensures passed { IfOk result (λ base. base ≡ None → passes limit false (first_part count (repository_of from.now book.now)) ≡ None → ⊥) }
+        ensures base { IfOk result (λ base. ForSome base (λ made. IsBase from.now book.now made
+            × (made.flags.items ≡ first_flags count (length book.now.rows))
+            × (made.limit ≡ limit))) }
+        ensures passed { IfOk result (λ base. base ≡ None →
+            passes limit false (first_part count (repository_of from.now book.now)) ≡ None → ⊥) }
     {
         let users = UseTable::of(alloc, from, book.rows.as_slice())?;
         let first = first_chosen(alloc, count, book.size())?;
@@ -63,7 +68,7 @@ impl Base {
             Err(FlatError::Limit { .. }) => return Ok(None),
             Err(FlatError::Memory) => return Err(AllocError),
         };
-        // The pool of the work has rows that are of no use any more.
+        // The work's own pool also has rows that are no longer used.
         let mut pool = Pool::new(alloc)?;
         let first_rows = pool.carry_rows(&work, flat.rows.as_slice())?;
         let rows = with_empty(&mut pool, first_rows, book.size() - count)?;
@@ -77,9 +82,12 @@ impl Base {
         }))
     }
 
-    /// The rows over the core of the packages of a mix, in the numbers of the book and the pool of this base; any row for a package that the
-    /// mix lacks. None if one of its rows has more clauses than the limit allows at some stage of flattening. Only rows of packages that are
-    /// in one of the two parts alone, or have conflicts in one alone, or need such a package, are made anew. This stays a base of its part.
+    /// The rows over the core of the packages of a mix, in the numbers of the book and the pool of
+    /// this base. For a package that the mix lacks it is any row. `None` if a row has more clauses
+    /// than the limit allows at some stage of flattening.
+    ///
+    /// Rows are made anew only for packages that are in one of the two parts alone, or have
+    /// conflicts in one alone, or need such a package. This stays a base of its part.
     pub fn rows_in(
         &mut self,
         alloc: Global,
@@ -91,8 +99,10 @@ impl Base {
         requires base { IsBase from.now book.now self.old }
         requires limit { 0 < self.old.limit }
         requires flags { length flags.now ≡ length book.now.rows }
-        ensures rows { IfOk result (λ made. ForSome made (λ rows. AreMixRows from.now book.now self.new flags.now rows.items)) }
-        ensures passed { IfOk result (λ made. made ≡ None → passes self.old.limit false (part flags.now (repository_of from.now book.now)) ≡ None → ⊥) }
+        ensures rows { IfOk result (λ made.
+            ForSome made (λ rows. AreMixRows from.now book.now self.new flags.now rows.items)) }
+        ensures passed { IfOk result (λ made. made ≡ None → passes self.old.limit false
+            (part flags.now (repository_of from.now book.now)) ≡ None → ⊥) }
         ensures base { IsBase from.now book.now self.new }
         ensures limit { self.new.limit ≡ self.old.limit }
     {
@@ -120,16 +130,18 @@ impl Base {
         Ok(Some(rows))
     }
 
-    /// The packages of a mix by their rows, which are in the pool of this base.
+    /// The packages of a mix with their rows, which are in the pool of this base.
     pub fn masked<'a>(
         &'a self,
         rows: &'a [RowId],
         book: &'a Book,
         flags: &'a [bool],
     ) -> MaskedRows<'a>
-        ensures mask { (from : Interned) → AreMixRows from book.now self.now flags.now rows.now → IsMaskOfRows result }
+        ensures mask { (from : Interned) → AreMixRows from book.now self.now flags.now rows.now →
+            IsMaskOfRows result }
         ensures flat { (from : Interned) → AreMixRows from book.now self.now flags.now rows.now →
-            part flags.now (masked_repository result) ≡ flat self.now.limit false (part flags.now (repository_of from book.now)) }
+            part flags.now (masked_repository result)
+            ≡ flat self.now.limit false (part flags.now (repository_of from book.now)) }
         ensures flags { result.flags.now ≡ flags.now }
     {
         MaskedRows {
@@ -140,18 +152,20 @@ impl Base {
         }
     }
 
-    /// Makes this the base of the mix of which these are the rows.
+    /// Makes this the base of a mix, given the rows of the mix.
     pub fn follow(&mut self, flags: Vec<bool>, rows: Vec<RowId>)
         requires { AreBaseRows self.old.pool rows.items (length flags.items) }
-        ensures base { (from : Interned) (book : Book) → IsBase from book self.old → AreMixRows from book self.old flags.items rows.items → IsBase from book self.new }
+        ensures base { (from : Interned) (book : Book) → IsBase from book self.old →
+            AreMixRows from book self.old flags.items rows.items → IsBase from book self.new }
         ensures limit { self.new.limit ≡ self.old.limit }
     {
         self.flags = flags;
         self.rows = rows;
     }
 
-    /// At least the packages that are in only one of the two parts, that of this base and that of the chosen ones, or have a conflict in only
-    /// one of them, or need one of these.
+    /// A set with each package that differs between the part of this base and that of the chosen
+    /// packages, or needs such a package. A package differs if it is in only one of the two parts,
+    /// or has a conflict in only one. The set may have others.
     fn changed_by(
         &self,
         alloc: Global,
@@ -161,7 +175,8 @@ impl Base {
         requires fits { FitsIn book.now self.now }
         requires flags { length flags.now ≡ length book.now.rows }
         ensures size { IfOk result (λ changed. length changed.items ≡ length book.now.rows) }
-        ensures changed { IfOk result (λ changed. (from : Interned) → Sound from book.now → self.now.users ≡ uses_of from book.now.rows →
+        ensures changed { IfOk result (λ changed. (from : Interned) → Sound from book.now →
+            self.now.users ≡ uses_of from book.now.rows →
             AreChanged (repository_of from book.now) self.now.flags.items flags.now changed.items) }
     {
         let mut changed = none_flagged(alloc, book.size() as usize)?;
@@ -177,13 +192,16 @@ impl Base {
         Ok(changed)
     }
 
-    /// Whether a package is in only one of the two parts, or conflicts with packages in only one of them.
+    /// Whether a package is in only one of the two parts, or conflicts with packages in only one of
+    /// them.
     fn differs(&self, book: &Book, flags: &[bool], number: u32) -> bool
         requires number { number < length book.now.rows }
         requires own { length self.now.flags.items ≡ length book.now.rows }
         requires flags { length flags.now ≡ length book.now.rows }
-        requires conflicts { (n : ℕ) → In n (listed_for book.now.conflicts number) → n < length book.now.rows }
-        ensures { OnFalse result (StandsAlike book.now.conflicts self.now.flags.items flags.now number) }
+        requires conflicts { (n : ℕ) → In n (listed_for book.now.conflicts number) →
+            n < length book.now.rows }
+        ensures { OnFalse result
+            (StandsAlike book.now.conflicts self.now.flags.items flags.now number) }
     {
         if self.flags[number as usize] != flags[number as usize] {
             return true;

@@ -6,7 +6,7 @@ ghost use Rattle.suite_part.specs.Bases.{first_flags, Flags};
 use crate::chosen::Chosen;
 use std::alloc::{AllocError, Global};
 
-/// The first packages, so many, of all.
+/// The first `count` of all packages.
 pub(crate) fn first_chosen(alloc: Global, count: u32, size: u32) -> Result<Chosen, AllocError>
     requires { count ≤ size }
     ensures { IfOk result (λ made. made.flags.items ≡ first_flags count size) }
@@ -18,22 +18,25 @@ pub(crate) fn first_chosen(alloc: Global, count: u32, size: u32) -> Result<Chose
     Chosen::of(alloc, flags)
 }
 
-/// So many flags, none of them up.
+/// Flags that are all down.
 pub(crate) fn none_flagged(alloc: Global, count: usize) -> Result<Vec<bool>, AllocError>
     ensures { IfOk result (λ flags. flags.items ≡ replicate count false) }
 {
     vec![in alloc; false; count]
 }
 
-/// Flags the packages, and puts those that were not flagged to those whose users are to be looked at.
+/// Flags the packages. Those that were not flagged are appended to the work, so that their users
+/// are looked at.
 pub(crate) fn put_changed(
     packages: &[u32],
     changed: &mut [bool],
     work: &mut Vec<u32>,
 ) -> Result<(), AllocError>
     requires { (n : ℕ) → In n packages.now → n < length changed.old }
-    ensures flags { OnOk result (Flags packages.now changed.old work.old.items changed.new work.new.items) }
-    ensures count { OnOk result (count_by not changed.new + length work.new.items ≡ count_by not changed.old + length work.old.items) }
+    ensures flags { OnOk result
+        (Flags packages.now changed.old work.old.items changed.new work.new.items) }
+    ensures count { OnOk result (count_by not changed.new + length work.new.items
+        ≡ count_by not changed.old + length work.old.items) }
 {
     for number in packages {
         if !changed[*number as usize] {

@@ -5,7 +5,8 @@ ghost use Rattle.row_book.specs.{Flags.{flag}, Numbers.{numbers}, Parts.{chosen_
 
 use std::alloc::{AllocError, Global};
 
-/// Some packages of a book: for each package of the book whether it is one of them, and how many of them come before it.
+/// Some packages of a book: for each package of the book whether it is chosen, and how many chosen
+/// ones come before it.
 #[derive(Drop)]
 pub struct Chosen {
     /// For each package whether it is chosen.
@@ -32,9 +33,11 @@ impl Chosen {
         self.places[number]
     }
 
-    /// For each package what a list has at its place among the chosen ones. For a package that is not chosen it says nothing.
+    /// For each package the item of a list at its place among the chosen ones. For a package that
+    /// is not chosen it says nothing.
     pub fn spread(&self, alloc: Global, list: &[u32]) -> Result<Vec<u32>, AllocError>
-        ensures { IfOk result (λ made. made.items ≡ map (λ n. number_in list.now (place_in self.now.flags.items n)) (numbers (length self.now.flags.items) 0)) }
+        ensures { IfOk result (λ made. made.items ≡ map (λ n. number_in list.now
+            (place_in self.now.flags.items n)) (numbers (length self.now.flags.items) 0)) }
     {
         let mut made = Vec::with_capacity(alloc, self.places.len())?;
         for place in &self.places {
@@ -43,7 +46,7 @@ impl Chosen {
         Ok(made)
     }
 
-    /// Those of some packages that are chosen, by their numbers among the chosen ones.
+    /// Those of the packages that are chosen, by their numbers among the chosen ones.
     pub fn among(&self, alloc: Global, numbers: &[u32]) -> Result<Vec<u32>, AllocError>
         requires { (n : ℕ) → In n numbers.now → n < length self.now.flags.items }
         ensures { IfOk result (λ made. made.items ≡ chosen_in self.now.flags.items numbers.now) }
@@ -53,7 +56,7 @@ impl Chosen {
         Ok(made)
     }
 
-    /// Makes the list that of `among`, whatever it had.
+    /// Fills the list anew with what `among` returns.
     pub fn put_among(&self, made: &mut Vec<u32>, numbers: &[u32]) -> Result<(), AllocError>
         requires { (n : ℕ) → In n numbers.now → n < length self.now.flags.items }
         ensures { OnOk result (made.new.items ≡ chosen_in self.now.flags.items numbers.now) }
@@ -69,7 +72,7 @@ impl Chosen {
     }
 }
 
-// The number at a place, 0 past the last.
+// The number at a place, or 0 past the last.
 fn number_at(list: &[u32], place: u32) -> u32
     ensures { result ≡ number_in list.now place }
 {
@@ -79,7 +82,7 @@ fn number_at(list: &[u32], place: u32) -> u32
     }
 }
 
-/// Whether one of some packages has its flag up.
+/// Whether one of the packages has its flag up.
 pub(crate) fn has_one(flags: &[bool], numbers: &[u32]) -> bool
     requires { (n : ℕ) → In n numbers.now → n < length flags.now }
     ensures { result ≡ list_any (flag flags.now) numbers.now }
@@ -94,7 +97,8 @@ pub(crate) fn has_one(flags: &[bool], numbers: &[u32]) -> bool
 
 // For each flag how many before it are up.
 fn places_in(alloc: Global, flags: &[bool]) -> Result<Vec<u32>, AllocError>
-    ensures { IfOk result (λ places. places.items ≡ map (place_in flags.now) (numbers (length flags.now) 0)) }
+    ensures { IfOk result (λ places. places.items
+        ≡ map (place_in flags.now) (numbers (length flags.now) 0)) }
 {
     let mut places = Vec::with_capacity(alloc, flags.len())?;
     let mut count: u32 = 0;

@@ -1,5 +1,5 @@
-//! Parts of suites: the repository that some packages of a suite make, from that of all of them. The functions of `laws` do nothing, the
-//! contract of each is one law.
+//! Parts of suites: the repository that some packages of a suite make, from that of all of them.
+//! The functions of `laws` do nothing: the contract of each is one law.
 #![tactic(auto)]
 
 mod back;

@@ -11,7 +11,8 @@ use listed::Listed;
 use row_book::Book;
 use std::alloc::{AllocError, Global};
 
-/// The part of a book that the chosen packages make: these alone, in their order and numbered anew. What the pool held stays.
+/// The part of a book with only the chosen packages, in their order and numbered anew. What the
+/// pool held stays.
 pub fn part_of(
     alloc: Global,
     pool: &mut Pool,
@@ -22,7 +23,8 @@ pub fn part_of(
     requires pool { IsPool pool.old }
     requires book { Sound from.now book.now }
     requires flags { length chosen.now.flags.items ≡ length book.now.rows }
-    ensures part { IfOk result (λ made. repository_of pool.new made ≡ part chosen.now.flags.items (repository_of from.now book.now)) }
+    ensures part { IfOk result (λ made. repository_of pool.new made
+        ≡ part chosen.now.flags.items (repository_of from.now book.now)) }
     ensures sound { IfOk result (Sound pool.new) }
     ensures kept { Kept pool.old pool.new }
 {
@@ -46,7 +48,8 @@ fn rows_in(
     requires book { Sound from.now book.now }
     requires flags { length chosen.now.flags.items ≡ length book.now.rows }
     ensures rows { IfOk result (λ rows. map (row_at pool.new) rows.items
-        ≡ map (row_in chosen.now.flags.items) (items_where_true chosen.now.flags.items (repository_of from.now book.now).clauses)) }
+        ≡ map (row_in chosen.now.flags.items)
+        (items_where_true chosen.now.flags.items (repository_of from.now book.now).clauses)) }
     ensures of_pool { IfOk result (λ rows. RowsOf pool.new rows.items) }
     ensures kept { Kept pool.old pool.new }
 {
@@ -65,7 +68,8 @@ fn rows_in(
 fn conflicts_in(alloc: Global, book: &Book, chosen: &Chosen) -> Result<Vec<NumList>, AllocError>
     requires conflicts { AreConflicts book.now.conflicts }
     requires flags { length chosen.now.flags.items ≡ length book.now.rows }
-    ensures { IfOk result (λ lists. lists.items ≡ map (chosen_in chosen.now.flags.items) (items_where_true chosen.now.flags.items book.now.conflicts)) }
+    ensures { IfOk result (λ lists. lists.items ≡ map (chosen_in chosen.now.flags.items)
+        (items_where_true chosen.now.flags.items book.now.conflicts)) }
 {
     let mut lists = Vec::new(alloc);
     for number in 0..book.size() {

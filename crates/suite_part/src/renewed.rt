@@ -1,5 +1,5 @@
-//! The rows of a base with some of them made anew: those of packages that have not changed stay, since in the numbers of the book they are the
-//! same in both parts.
+//! The rows of a base with some of them made anew. Those of packages that have not changed stay,
+//! since in the numbers of the book they are the same in both parts.
 ghost use Rattle.std.specs.{Prelude.{◌≡◌, ◌<◌, IfNone, IfOk, length, true}, Option.{ForSome}};
 ghost use Rattle.clause_pool.specs.Interned.{IsPool, Kept};
 ghost use Rattle.row_book.specs.{Flags.{flag}, Parts.{place_in}};
@@ -12,7 +12,7 @@ use clause_pool::{Pool, RowId};
 use listed::true_numbers;
 use std::alloc::{AllocError, Global};
 
-/// The rows, followed by so many empty ones.
+/// The rows, followed by a number of empty ones.
 pub(crate) fn with_empty(
     pool: &mut Pool,
     rows: Vec<RowId>,
@@ -30,7 +30,8 @@ pub(crate) fn with_empty(
     Ok(all)
 }
 
-/// The rows; those of packages that have changed are replaced by the ones that they have in a part, in the numbers of the book.
+/// The rows, in which those of packages that have changed are replaced by the ones that they have
+/// in a part, in the numbers of the book.
 pub(crate) fn renewed_rows(
     alloc: Global,
     pool: &mut Pool,
@@ -44,7 +45,8 @@ pub(crate) fn renewed_rows(
     requires few { length apart.now.flags.items < 4294967296 }
     requires made { AreRowsOf from.now apart.now.flags.items made.now }
     requires changed { length changed.now ≡ length apart.now.flags.items }
-    ensures rows { IfOk result (λ more. AreRenewed from.now made.now apart.now.flags.items changed.now pool.new rows.now more.items) }
+    ensures rows { IfOk result (λ more. AreRenewed from.now made.now apart.now.flags.items
+        changed.now pool.new rows.now more.items) }
     ensures kept { Kept pool.old pool.new }
 {
     let numbers = true_numbers(alloc, &apart.flags)?;
@@ -67,9 +69,11 @@ pub(crate) fn renewed_rows(
 fn new_row(made: &[RowId], changed: &[bool], apart: &Chosen, number: usize) -> Option<RowId>
     requires number { number < length changed.now }
     requires changed { length changed.now ≡ length apart.now.flags.items }
-    requires made { length made.now ≡ place_in apart.now.flags.items (length apart.now.flags.items) }
+    requires made { length made.now
+        ≡ place_in apart.now.flags.items (length apart.now.flags.items) }
     ensures some { ForSome result (IsNewRow made.now apart.now.flags.items changed.now number) }
-    ensures none { IfNone result (flag apart.now.flags.items number ≡ true → flag changed.now number ≡ true → ⊥) }
+    ensures none { IfNone result (flag apart.now.flags.items number ≡ true →
+        flag changed.now number ≡ true → ⊥) }
 {
     if !changed[number] {
         return None;

@@ -1,7 +1,8 @@
 //! What is left of the rows of a book.
 //!
-//! What is left of a clause is made once, and its id is kept for the other rows that have the clause; so is what is left of a row, which
-//! many packages share. A row of which no clause loses a package stays in order, and so do most others; the rest are put in order.
+//! What is left of a clause is made once, and its id is kept for the other rows with the clause.
+//! The same holds of a row, which many packages share. A row whose clauses all stay whole stays in
+//! order, and so do most others; the rest are put in order.
 ghost use Rattle.std.specs.{Prelude.{◌≡◌, ◌<◌, ℕ, Bool, List, None, length, map, slice_index_or, IfOk, OnOk}, Bool.{OnTrue}, List.{list_all}};
 ghost use Rattle.clause_pool.specs.{Clauses.{in_row_order}, Interned.{clause_at, clauses_at, row_at, Interned, IsPool, Kept, OfPool}, Lists.{InOrder}};
 ghost use Rattle.listed.specs.Lists.{Ascending, In};
@@ -17,7 +18,7 @@ use std::alloc::{AllocError, Global};
 // What is left of the clauses of a pool, from one row to the next.
 #[derive(Drop)]
 struct LeftClauses {
-    // For each clause of that pool the id of what is left of it, where it is known.
+    // For each clause of that pool the id of what is left of it, if it is known.
     known: Vec<Option<ClauseId>>,
     // For each clause of that pool whether it is known to lose no package.
     whole: Vec<bool>,
@@ -28,9 +29,10 @@ struct LeftClauses {
 }
 
 impl LeftClauses {
-    // The clauses of a pool, of which nothing is known yet.
+    // The clauses of a pool; nothing is known of them yet.
     fn new(alloc: Global, from: &Pool) -> Result<LeftClauses, AllocError>
-        ensures { IfOk result (λ left. (flags : List Bool) (pool : Interned) → AreLeft from.now flags pool left.known.items left.whole.items) }
+        ensures { IfOk result (λ left. (flags : List Bool) (pool : Interned) →
+            AreLeft from.now flags pool left.known.items left.whole.items) }
     {
         let count = from.clause_count() as usize;
         let known = none_known(alloc, count)?;
@@ -47,16 +49,17 @@ impl LeftClauses {
 /// What is left of the rows of a pool, from one package to the next.
 #[derive(Drop)]
 pub(crate) struct LeftRows {
-    // For each row of that pool the id of what is left of it, where it is known.
+    // For each row of that pool the id of what is left of it, if it is known.
     known: Vec<Option<RowId>>,
     // What is left of its clauses.
     clauses: LeftClauses,
 }
 
 impl LeftRows {
-    /// The rows of a pool, of which nothing is known yet.
+    /// The rows of a pool; nothing is known of them yet.
     pub(crate) fn new(alloc: Global, from: &Pool) -> Result<LeftRows, AllocError>
-        ensures { IfOk result (λ left. (flags : List Bool) (pool : Interned) → AreAllLeft from.now flags pool left) }
+        ensures { IfOk result (λ left. (flags : List Bool) (pool : Interned) →
+            AreAllLeft from.now flags pool left) }
     {
         let known = none_known(alloc, from.row_count())?;
         let clauses = LeftClauses::new(alloc, from)?;
@@ -75,7 +78,8 @@ pub(crate) fn row_left(
 ) -> Result<RowId, AllocError>
     requires pool { IsPool pool.old }
     requires id { id < length from.now.rows }
-    requires numbers { (c : List ℕ) → In c (row_at from.now id) → (n : ℕ) → In n c → n < length chosen.now.flags.items }
+    requires numbers { (c : List ℕ) → In c (row_at from.now id) → (n : ℕ) → In n c →
+        n < length chosen.now.flags.items }
     requires left { AreAllLeft from.now chosen.now.flags.items pool.old left.old }
     ensures row { IfOk result (IsRowLeft from.now chosen.now.flags.items pool.new id) }
     ensures left { OnOk result (AreAllLeft from.now chosen.now.flags.items pool.new left.new) }
@@ -89,7 +93,7 @@ pub(crate) fn row_left(
     Ok(made)
 }
 
-// What is left of a row of these clauses.
+// What is left of a row with these clauses.
 fn row_in(
     alloc: Global,
     pool: &mut Pool,
@@ -101,11 +105,15 @@ fn row_in(
     requires pool { IsPool pool.old }
     requires row { OfPool from.now row.now }
     requires order { InOrder (clauses_at from.now row.now) }
-    requires numbers { (c : List ℕ) → In c (clauses_at from.now row.now) → (n : ℕ) → In n c → n < length chosen.now.flags.items }
-    requires known { AreLeft from.now chosen.now.flags.items pool.old left.old.known.items left.old.whole.items }
-    ensures row { IfOk result (λ id. row_at pool.new id ≡ row_in chosen.now.flags.items (clauses_at from.now row.now)) }
+    requires numbers { (c : List ℕ) → In c (clauses_at from.now row.now) → (n : ℕ) → In n c →
+        n < length chosen.now.flags.items }
+    requires known { AreLeft from.now chosen.now.flags.items pool.old left.old.known.items
+        left.old.whole.items }
+    ensures row { IfOk result (λ id. row_at pool.new id
+        ≡ row_in chosen.now.flags.items (clauses_at from.now row.now)) }
     ensures of_pool { IfOk result (λ id. id < length pool.new.rows) }
-    ensures known { OnOk result (AreLeft from.now chosen.now.flags.items pool.new left.new.known.items left.new.whole.items) }
+    ensures known { OnOk result (AreLeft from.now chosen.now.flags.items pool.new
+        left.new.known.items left.new.whole.items) }
     ensures kept { Kept pool.old pool.new }
 {
     left_ids(pool, from, row, chosen, left)?;
@@ -116,7 +124,7 @@ fn row_in(
     intern_in_order(alloc, pool, ids)
 }
 
-/// So many ids, of which none is known.
+/// A place for each id, with none known.
 pub(crate) fn none_known<T: Drop>(alloc: Global, count: usize) -> Result<Vec<Option<T>>, AllocError>
     ensures size { IfOk result (λ known. length known.items ≡ count) }
     ensures none { IfOk result (λ known. (id : ℕ) → slice_index_or known.items id None ≡ None) }
@@ -128,7 +136,7 @@ pub(crate) fn none_known<T: Drop>(alloc: Global, count: usize) -> Result<Vec<Opt
     Ok(known)
 }
 
-// Puts the ids of what is left of each clause of a row into their room.
+// Fills the room for ids with those of what is left of each clause of a row.
 fn left_ids(
     pool: &mut Pool,
     from: &Pool,
@@ -137,11 +145,15 @@ fn left_ids(
     left: &mut LeftClauses,
 ) -> Result<(), AllocError>
     requires row { OfPool from.now row.now }
-    requires numbers { (c : List ℕ) → In c (clauses_at from.now row.now) → (n : ℕ) → In n c → n < length chosen.now.flags.items }
-    requires known { AreLeft from.now chosen.now.flags.items pool.old left.old.known.items left.old.whole.items }
-    ensures ids { OnOk result (clauses_at pool.new left.new.ids.items ≡ map (chosen_in chosen.now.flags.items) (clauses_at from.now row.now)) }
+    requires numbers { (c : List ℕ) → In c (clauses_at from.now row.now) → (n : ℕ) → In n c →
+        n < length chosen.now.flags.items }
+    requires known { AreLeft from.now chosen.now.flags.items pool.old left.old.known.items
+        left.old.whole.items }
+    ensures ids { OnOk result (clauses_at pool.new left.new.ids.items
+        ≡ map (chosen_in chosen.now.flags.items) (clauses_at from.now row.now)) }
     ensures of_pool { OnOk result (OfPool pool.new left.new.ids.items) }
-    ensures known { OnOk result (AreLeft from.now chosen.now.flags.items pool.new left.new.known.items left.new.whole.items) }
+    ensures known { OnOk result (AreLeft from.now chosen.now.flags.items pool.new
+        left.new.known.items left.new.whole.items) }
     ensures kept { Kept pool.old pool.new }
 {
     left.ids.clear();
@@ -152,7 +164,7 @@ fn left_ids(
     Ok(())
 }
 
-// The id of what is left of a clause, which is made where none is known yet.
+// The id of what is left of a clause. It is made if none is known yet.
 fn left_id(
     pool: &mut Pool,
     from: &Pool,
@@ -162,10 +174,12 @@ fn left_id(
 ) -> Result<ClauseId, AllocError>
     requires id { id < length from.now.clauses }
     requires numbers { (n : ℕ) → In n (clause_at from.now id) → n < length chosen.now.flags.items }
-    requires known { AreLeft from.now chosen.now.flags.items pool.old left.old.known.items left.old.whole.items }
+    requires known { AreLeft from.now chosen.now.flags.items pool.old left.old.known.items
+        left.old.whole.items }
     ensures is { IfOk result (IsLeft from.now chosen.now.flags.items pool.new id) }
     ensures ids { left.new.ids ≡ left.old.ids }
-    ensures known { OnOk result (AreLeft from.now chosen.now.flags.items pool.new left.new.known.items left.new.whole.items) }
+    ensures known { OnOk result (AreLeft from.now chosen.now.flags.items pool.new
+        left.new.known.items left.new.whole.items) }
     ensures kept { Kept pool.old pool.new }
 {
     if let Some(new) = left.known[id.place()] {
@@ -196,7 +210,8 @@ fn are_whole(whole: &[bool], row: &[ClauseId]) -> bool
 fn intern_in_order(alloc: Global, pool: &mut Pool, ids: &[ClauseId]) -> Result<RowId, AllocError>
     requires pool { IsPool pool.old }
     requires of_pool { OfPool pool.old ids.now }
-    ensures row { IfOk result (λ id. row_at pool.new id ≡ in_row_order (clauses_at pool.old ids.now)) }
+    ensures row { IfOk result (λ id. row_at pool.new id
+        ≡ in_row_order (clauses_at pool.old ids.now)) }
     ensures of_pool { IfOk result (λ id. id < length pool.new.rows) }
     ensures kept { Kept pool.old pool.new }
 {
@@ -235,7 +250,7 @@ fn family_of(alloc: Global, pool: &Pool, ids: &[ClauseId]) -> Result<Vec<Clause>
     Ok(family)
 }
 
-// The ids of the clauses, which come into the pool.
+// The ids of the clauses, which are added to the pool.
 fn ids_of(alloc: Global, pool: &mut Pool, family: &[Clause]) -> Result<Vec<ClauseId>, AllocError>
     requires { (c : List ℕ) → In c family.now → Ascending c }
     ensures ids { IfOk result (λ ids. clauses_at pool.new ids.items ≡ family.now) }

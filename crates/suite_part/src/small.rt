@@ -1,5 +1,7 @@
-//! The small book of packages of a mix that have changed: it has them, all that they need in the mix, and for each of these that has conflicts
-//! there one rival, which it conflicts with. Elimination is local, and asks of a conflict only whether there is one. A rival has no clauses
+//! The small book of packages of a mix that have changed. It has them and all that they need in the
+//! mix. For each of these that has conflicts there it has one rival, with which it conflicts.
+//!
+//! Elimination is local, and asks of a conflict only whether there is one. A rival has no clauses
 //! there, so the small book passes the limit exactly if the mix does.
 ghost use Rattle.std.specs.Prelude.{◌≡◌, ◌<◌, ◌+◌, ◌&&◌, ◌⊎◌, ℕ, List, cond, count_by, false, filter, length, map, not, true, IfNone, IfOk, OnOk};
 ghost use Rattle.std.specs.{List.{list_any}, Option.{ForSome}};
@@ -70,7 +72,8 @@ fn needed_in(
     requires book { Sound from.now book.now }
     requires flags { length flags.now ≡ length book.now.rows }
     requires changed { length changed.now ≡ length book.now.rows }
-    ensures { IfOk result (λ needed. AreNeeded (repository_of from.now book.now) flags.now changed.now needed.items) }
+    ensures { IfOk result (λ needed.
+        AreNeeded (repository_of from.now book.now) flags.now changed.now needed.items) }
 {
     let mut needed = none_flagged(alloc, flags.len())?;
     let mut work = Vec::new(alloc);
@@ -103,8 +106,8 @@ fn are_both(first: &[bool], second: &[bool], number: u32) -> bool
     second[number as usize]
 }
 
-// Flags the members of the clauses of a row that are in the mix, and puts those that were not flagged to those whose needs are to be looked
-// at.
+// Flags the members of the clauses of a row that are in the mix. Those that were not flagged are
+// appended to the work, so that their needs are looked at.
 fn need_members(
     from: &Pool,
     row: &[ClauseId],
@@ -113,10 +116,13 @@ fn need_members(
     work: &mut Vec<u32>,
 ) -> Result<(), AllocError>
     requires row { OfPool from.now row.now }
-    requires numbers { (c : List ℕ) → In c (clauses_at from.now row.now) → (n : ℕ) → In n c → n < length needed.old }
+    requires numbers { (c : List ℕ) → In c (clauses_at from.now row.now) → (n : ℕ) → In n c →
+        n < length needed.old }
     requires size { length flags.now ≡ length needed.old }
-    ensures flags { OnOk result (Flags (members_in flags.now (clauses_at from.now row.now)) needed.old work.old.items needed.new work.new.items) }
-    ensures count { OnOk result (count_by not needed.new + length work.new.items ≡ count_by not needed.old + length work.old.items) }
+    ensures flags { OnOk result (Flags (members_in flags.now (clauses_at from.now row.now))
+        needed.old work.old.items needed.new work.new.items) }
+    ensures count { OnOk result (count_by not needed.new + length work.new.items
+        ≡ count_by not needed.old + length work.old.items) }
 {
     for id in row {
         need_each(from.slice(*id), flags, needed, work)?;
@@ -124,7 +130,8 @@ fn need_members(
     Ok(())
 }
 
-// Does so with the members of one clause.
+// Flags the members of one clause that are in the mix, and appends those that were not flagged to
+// the work.
 fn need_each(
     clause: &[u32],
     flags: &[bool],
@@ -133,8 +140,10 @@ fn need_each(
 ) -> Result<(), AllocError>
     requires numbers { (n : ℕ) → In n clause.now → n < length needed.old }
     requires size { length flags.now ≡ length needed.old }
-    ensures flags { OnOk result (Flags (filter (flag flags.now) clause.now) needed.old work.old.items needed.new work.new.items) }
-    ensures count { OnOk result (count_by not needed.new + length work.new.items ≡ count_by not needed.old + length work.old.items) }
+    ensures flags { OnOk result (Flags
+        (filter (flag flags.now) clause.now) needed.old work.old.items needed.new work.new.items) }
+    ensures count { OnOk result (count_by not needed.new + length work.new.items
+        ≡ count_by not needed.old + length work.old.items) }
 {
     for member in clause {
         if flags[*member as usize] {
@@ -144,7 +153,7 @@ fn need_each(
     Ok(())
 }
 
-// The flags, and for each package with a flag that conflicts with packages of the mix that of one of these.
+// The flags, with a rival flagged for each package with a flag that has conflicts in the mix.
 fn with_rivals(
     alloc: Global,
     book: &Book,
@@ -166,21 +175,23 @@ fn with_rivals(
     Ok(apart)
 }
 
-// Flags the first of some packages that is in the mix, if one is.
+// Flags the first of the packages that is in the mix, if there is one.
 fn put_rival(apart: &mut [bool], flags: &[bool], packages: &[u32])
     requires size { length flags.now ≡ length apart.old }
     requires numbers { (n : ℕ) → In n packages.now → n < length apart.old }
     ensures size { length apart.new ≡ length apart.old }
     ensures stays { (n : ℕ) → flag apart.old n ≡ true → flag apart.new n ≡ true }
-    ensures mix { (n : ℕ) → flag apart.new n ≡ true → (flag apart.old n ≡ true) ⊎ (flag flags.now n ≡ true) }
-    ensures one { (n : ℕ) → In n packages.now → flag flags.now n ≡ true → list_any (flag apart.new) packages.now ≡ true }
+    ensures mix { (n : ℕ) → flag apart.new n ≡ true →
+        (flag apart.old n ≡ true) ⊎ (flag flags.now n ≡ true) }
+    ensures one { (n : ℕ) → In n packages.now → flag flags.now n ≡ true →
+        list_any (flag apart.new) packages.now ≡ true }
 {
     if let Some(rival) = first_in(flags, packages) {
         apart[rival as usize] = true;
     }
 }
 
-// The first of some packages that is in the mix.
+// The first of the packages that is in the mix.
 fn first_in(flags: &[bool], packages: &[u32]) -> Option<u32>
     requires { (n : ℕ) → In n packages.now → n < length flags.now }
     ensures some { ForSome result (λ n. In n packages.now × (flag flags.now n ≡ true)) }
@@ -194,7 +205,7 @@ fn first_in(flags: &[bool], packages: &[u32]) -> Option<u32>
     None
 }
 
-// The rows of those packages that are needed, and another row for the others.
+// The rows of the packages that are needed, and another row for the others.
 fn rows_or(
     alloc: Global,
     rows: &[RowId],
@@ -204,7 +215,8 @@ fn rows_or(
 ) -> Result<Vec<RowId>, AllocError>
     requires count { length packages.now ≡ length rows.now }
     requires within { (n : ℕ) → In n packages.now → n < length needed.now }
-    ensures { IfOk result (λ made. made.items ≡ map (λ k. cond (flag needed.now (number_in packages.now k)) (row_id rows.now k) other) (numbers (length rows.now) 0)) }
+    ensures { IfOk result (λ made. made.items ≡ map (λ k. cond (flag needed.now
+        (number_in packages.now k)) (row_id rows.now k) other) (numbers (length rows.now) 0)) }
 {
     let mut made = Vec::with_capacity(alloc, rows.len())?;
     for (place, row) in rows.iter().enumerate() {

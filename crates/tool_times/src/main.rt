@@ -1,6 +1,6 @@
-//! A measuring program: reads an index, makes its suite, looks up each atom, makes the repository, flattens it, makes its
-//! kernel and then each part of each round by itself, and prints the time of each step. No part of coinst stands on it;
-//! `bench/suite` runs it.
+//! A measuring program, which prints the time of each step: it reads an index, makes its suite,
+//! looks up each atom, makes the repository, flattens it and makes its kernel. Then it makes each
+//! part of each round by itself. No part of coinst uses it; `bench/suite` runs it.
 #![tactic(auto)]
 
 ghost use Rattle.std.specs.Prelude.{IfOk};
@@ -62,12 +62,12 @@ fn count_unmet(pool: &Pool, book: &Book) -> u64
     unmet
 }
 
-/// The time since the start, or none where the clock fails.
+/// The time since the start, or zero if the clock fails.
 fn since(rt: &HostRuntime, start: &Instant) -> Duration {
     start.elapsed(rt).unwrap_or(Duration::ZERO)
 }
 
-/// Prints what a suite has and the time of each step; it fails only where no memory is found.
+/// Prints what a suite has and the time of each step.
 fn measure(rt: &HostRuntime, start: &Instant, suite: &Suite) -> Result<(), AllocError> {
     let alloc = rt.alloc();
     let made = since(rt, start);
@@ -80,7 +80,8 @@ fn measure(rt: &HostRuntime, start: &Instant, suite: &Suite) -> Result<(), Alloc
     let unmet = count_unmet(&pool, &book);
     let clauses = pool.clause_count();
     let _ = println!(rt;
-        "{count} packages, {met} that meet an atom, {unmet} with an element that nobody meets, {clauses} clauses"
+        "{count} packages, {met} that meet an atom, \
+         {unmet} with an element that nobody meets, {clauses} clauses"
     );
     let _ = println!(rt;
         "a suite after {made:?}, all atoms looked up after {all:?}, a book after {booked:?}"
@@ -93,7 +94,7 @@ fn measure(rt: &HostRuntime, start: &Instant, suite: &Suite) -> Result<(), Alloc
     measure_kernel(rt, start, suite)
 }
 
-/// Prints what the kernel of a suite has and the time that it took; it fails only where no memory is found.
+/// Prints what the kernel of a suite has and the time that it took.
 fn measure_kernel(rt: &HostRuntime, start: &Instant, suite: &Suite) -> Result<(), AllocError> {
     let alloc = rt.alloc();
     let mut pool = Pool::new(alloc)?;
@@ -113,7 +114,7 @@ fn measure_kernel(rt: &HostRuntime, start: &Instant, suite: &Suite) -> Result<()
     measure_rounds(rt, start, suite)
 }
 
-/// Prints how many classes, clauses and conflicting pairs a book has, and answers the sum of these.
+/// Prints how many classes, clauses and conflicting pairs a book has, and returns their sum.
 fn print_counts(rt: &HostRuntime, pool: &Pool, book: &Book) -> u64
     requires { Sound pool.now book.now }
 {
@@ -131,8 +132,8 @@ fn print_counts(rt: &HostRuntime, pool: &Pool, book: &Book) -> u64
     clauses.wrapping_add(pairs).wrapping_add(u64::from(classes))
 }
 
-/// Prints the time after each part of a round, and answers the book that it leaves; it fails where no memory is found, and
-/// where the clause limit is passed.
+/// Prints the time after each part of a round, and returns the book that it leaves. A clause limit
+/// that is passed counts as want of memory.
 fn measure_round(
     rt: &HostRuntime,
     start: &Instant,
@@ -153,7 +154,7 @@ fn measure_round(
     left
 }
 
-/// The same from merging on.
+/// The parts of a round from merging on.
 fn measure_merge(
     rt: &HostRuntime,
     start: &Instant,
@@ -171,7 +172,7 @@ fn measure_merge(
     left
 }
 
-/// The same from pruning on.
+/// The parts of a round from pruning on.
 fn measure_prune(
     rt: &HostRuntime,
     start: &Instant,
@@ -190,7 +191,7 @@ fn measure_prune(
     left
 }
 
-/// The same of the last part, which takes the redundant conflicts away.
+/// The last part of a round, which removes the redundant conflicts.
 fn measure_thin(
     rt: &HostRuntime,
     start: &Instant,
@@ -206,8 +207,8 @@ fn measure_thin(
     Ok(thinned)
 }
 
-/// Prints the time of each part of each round, up to one that leaves as many classes, clauses and conflicts; it fails as
-/// `measure_round` does.
+/// Prints the time of each part of each round, up to one that leaves as many classes, clauses and
+/// conflicts. It fails as `measure_round` does.
 fn measure_rounds(rt: &HostRuntime, start: &Instant, suite: &Suite) -> Result<(), AllocError> {
     let alloc = rt.alloc();
     let mut pool = Pool::new(alloc)?;
@@ -225,8 +226,9 @@ fn measure_rounds(rt: &HostRuntime, start: &Instant, suite: &Suite) -> Result<()
     Ok(())
 }
 
-/// Statuses: 0, measured; 2, the one word INDEX is missing; 3, a fault of the index, which is printed; 5, the index
-/// could not be read or is too long; 7, want of memory or of a clock.
+/// Statuses: 0 if it measured; 2 if the one word INDEX is missing. With 3 the index has a fault,
+/// which is printed. With 5 it could not be read or is too long. With 7 memory or a clock was
+/// missing.
 fn main(rt: HostRuntime) -> ExitCode {
     let Ok(mut words) = env::args(&rt) else {
         return ExitCode::from(2)

@@ -8,6 +8,7 @@ order_sign Less = codes "<"
 order_sign Equal = codes "="
 order_sign Greater = codes ">"
 
--- how the two versions stand to each other, or `?` where one of the texts is no version
+-- how the two versions compare, or `?` if one of the texts is no version
 abbrev pub sign_between : List ℕ → List ℕ → List ℕ
-sign_between left right = if is_version left && is_version right then order_sign (version_order left right) else codes "?"
+sign_between left right =
+    if is_version left && is_version right then order_sign (version_order left right) else codes "?"

@@ -1,5 +1,5 @@
-//! Compares versions: for each line `LEFT RIGHT` of standard input it writes `<`, `=` or `>`, or `?` where one of the
-//! two is no version.
+//! Compares versions. For each line `LEFT RIGHT` of standard input it writes `<`, `=` or `>`, or
+//! `?` if one of the two is no version.
 #![tactic(auto)]
 
 ghost use Rattle.std.specs.Prelude.{◌≡◌, ◌&&◌, IfOk, IfErr, false, true};
@@ -22,7 +22,7 @@ fn main(rt: HostRuntime) -> io::Result<()> {
     out.flush()
 }
 
-/// The sign between the two texts of a line, or `?` where it has no space.
+/// The sign between the two texts of a line, or `?` if it has no space.
 fn sign_of(alloc: Global, line: &str) -> Result<&'static str, AllocError> {
     let Some((left, right)) = line.split_once(' ') else {
         return Ok("?");
@@ -30,7 +30,7 @@ fn sign_of(alloc: Global, line: &str) -> Result<&'static str, AllocError> {
     sign_of_two(alloc, left, right)
 }
 
-/// The sign between two texts; it fails only where no memory is found.
+/// The sign between two texts.
 fn sign_of_two(alloc: Global, left: &str, right: &str) -> Result<&'static str, AllocError>
     ensures { IfOk result (λ sign. sign.now ≡ sign_between left.now right.now) }
 {

@@ -11,15 +11,15 @@ use package_register::{Candidates, Register};
 use relation_fields::{Atom, Home, Op, PackageFacts};
 use std::alloc::{AllocError, Global};
 
-/// The packages by the names that they have and the names that they provide: a register in which each provide is too. Packages
-/// are numbered from 0 in their order.
+/// The packages by the names that they have and the names that they provide: a register that also
+/// has each provide. Packages are numbered from 0 in their order.
 #[derive(Drop)]
 pub struct NameTable {
     register: Register,
 }
 
 impl NameTable {
-    /// The table of no packages; it takes no memory.
+    /// The table of no packages.
     pub fn new(alloc: Global) -> Self
         ensures { IsBuiltFrom [] result }
     {
@@ -28,7 +28,7 @@ impl NameTable {
         }
     }
 
-    /// The table of the packages; it fails only where no memory is found. Time is linear in their names and provides.
+    /// The table of the packages, made in time linear in their names and provides.
     pub fn build(alloc: Global, packages: &[PackageFacts]) -> Result<NameTable, AllocError>
         requires { length packages.now < u32.MAX }
         ensures { IfOk result (IsBuiltFrom packages.now) }
@@ -40,9 +40,10 @@ impl NameTable {
         Ok(table)
     }
 
-    /// Puts in a package behind the others.
+    /// Adds the next package.
     pub fn put(&mut self, number: u32, facts: &PackageFacts) -> Result<(), AllocError>
-        ensures { OnOk result ((packages : List PackageFacts) → IsBuiltFrom packages self.old → number ≡ length packages → IsBuiltFrom (packages ++ facts.now ∷ []) self.new) }
+        ensures { OnOk result ((packages : List PackageFacts) → IsBuiltFrom packages self.old →
+            number ≡ length packages → IsBuiltFrom (packages ++ facts.now ∷ []) self.new) }
     {
         let own = Some(&facts.version);
         self.register.put(facts.name.as_slice(), own, number)?;
@@ -62,7 +63,8 @@ impl NameTable {
         name: &[u8],
     ) -> Result<Vec<u32>, AllocError>
         requires { IsBuiltFrom packages.now self.now }
-        ensures { IfOk result (λ found. found.items ≡ numbers_where (has_name own_name name.now) packages.now) }
+        ensures { IfOk result (λ found. found.items
+            ≡ numbers_where (has_name own_name name.now) packages.now) }
     {
         self.register.named(alloc, packages, name)
     }
@@ -76,12 +78,13 @@ impl NameTable {
         version: &Version,
     ) -> Result<Vec<u32>, AllocError>
         requires { IsBuiltFrom packages.now self.now }
-        ensures { IfOk result (λ found. found.items ≡ numbers_where (is_version_of own_name own_version name.now version.now) packages.now) }
+        ensures { IfOk result (λ found. found.items ≡ numbers_where
+            (is_version_of own_name own_version name.now version.now) packages.now) }
     {
         self.register.versioned(alloc, packages, name, version)
     }
 
-    /// Whether a package has the name; it takes no memory.
+    /// Whether a package has the name.
     pub fn has_name(&self, packages: &[PackageFacts], name: &[u8]) -> bool
         requires { IsBuiltFrom packages.now self.now }
         ensures { result ≡ list_any (has_name own_name name.now) packages.now }
@@ -89,10 +92,11 @@ impl NameTable {
         self.register.has_name(packages, name)
     }
 
-    /// The numbers of the packages that meet the atom, ascending, each once; it fails only where no memory is found.
+    /// The numbers of the packages that meet the atom, ascending, each once.
     ///
-    /// The table was built from these packages. Only the packages that have or provide the atom's name are asked, and where
-    /// many do and the atom asks for one version exactly, few others than those in an equal version.
+    /// The table was built from these packages. Only the packages that have or provide the atom's
+    /// name are asked. If many do and the atom asks for one version exactly, hardly any others than
+    /// those in an equal version are asked.
     pub fn meeting(
         &self,
         alloc: Global,
@@ -101,7 +105,8 @@ impl NameTable {
         home: &Home,
     ) -> Result<Vec<u32>, AllocError>
         requires { IsBuiltFrom packages.now self.now }
-        ensures { IfOk result (λ found. found.items ≡ numbers_where (λ facts. meets atom.now facts home.now) packages.now) }
+        ensures { IfOk result (λ found. found.items
+            ≡ numbers_where (λ facts. meets atom.now facts home.now) packages.now) }
     {
         let candidates = self.candidates(alloc, atom)?;
         let mut found = met_among(alloc, packages, candidates, atom, home)?;
@@ -109,9 +114,10 @@ impl NameTable {
         Ok(found)
     }
 
-    // Numbers among which are those of all packages that meet the atom.
+    // Numbers that include those of all packages that meet the atom.
     fn candidates(&self, alloc: Global, atom: &Atom) -> Result<Candidates<'_>, AllocError>
-        ensures { IfOk result (λ found. AreFor self.now.register atom.now (found.first.now ++ found.others.now)) }
+        ensures { IfOk result (λ found.
+            AreFor self.now.register atom.now (found.first.now ++ found.others.now)) }
     {
         let name = atom.name.as_slice();
         match exact_version(atom) {
@@ -124,7 +130,7 @@ impl NameTable {
     }
 }
 
-// The version that the atom asks for exactly, where it does.
+// The version that the atom asks for exactly, if it does.
 fn exact_version(atom: &Atom) -> Option<&Version>
     ensures { option_copied result ≡ exact_version atom.now }
 {
@@ -145,7 +151,8 @@ fn met_among(
     atom: &Atom,
     home: &Home,
 ) -> Result<Vec<u32>, AllocError>
-    ensures { IfOk result (λ found. found.items ≡ filter (passes_at (λ facts. meets atom.now facts home.now) packages.now) (candidates.entry.first.now ++ candidates.entry.others.now)) }
+    ensures { IfOk result (λ found. found.items ≡ filter (passes_at (λ facts. meets atom.now facts
+        home.now) packages.now) (candidates.entry.first.now ++ candidates.entry.others.now)) }
 {
     let mut found = Vec::new(alloc);
     put_met(packages, candidates.first, atom, home, &mut found)?;
@@ -153,7 +160,7 @@ fn met_among(
     Ok(found)
 }
 
-// Puts those of the numbers whose packages meet the atom behind the others.
+// Appends those of the numbers whose packages meet the atom.
 fn put_met(
     packages: &[PackageFacts],
     numbers: &[u32],
@@ -161,7 +168,8 @@ fn put_met(
     home: &Home,
     found: &mut Vec<u32>,
 ) -> Result<(), AllocError>
-    ensures { OnOk result (found.new.items ≡ found.old.items ++ filter (passes_at (λ facts. meets atom.now facts home.now) packages.now) numbers.now) }
+    ensures { OnOk result (found.new.items ≡ found.old.items
+        ++ filter (passes_at (λ facts. meets atom.now facts home.now) packages.now) numbers.now) }
 {
     for number in numbers {
         if is_met_at(packages, *number, atom, home) {
@@ -171,7 +179,7 @@ fn put_met(
     Ok(())
 }
 
-// Whether there is a package of that number, and it meets the atom.
+// Whether there is a package with that number, and it meets the atom.
 fn is_met_at(packages: &[PackageFacts], number: u32, atom: &Atom, home: &Home) -> bool
     ensures { result ≡ passes_at (λ facts. meets atom.now facts home.now) packages.now number }
 {

@@ -11,3 +11,4 @@ pub mod Starting
 pub mod Building
 pub mod Preparing
 pub mod Local
+pub mod AnyConflicts

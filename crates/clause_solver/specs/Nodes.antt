@@ -1,4 +1,4 @@
--- for bodies alone, those of other crates too
+-- for the bodies of this crate alone
 -- What a node is whose closure does not clash.
 use Rattle.std.specs.Prelude.{◌≡◌, ℕ, ◌<◌, ◌≤◌, Bool, true, false, List, [], ◌∷◌, ◌++◌, All, Contains, slice_index_or, ◌⊎◌}
 use Rattle.search_terms.specs.{declared.literals.Literal.{Literal}, Closure.{literal}, Tree.{IsFoundLeaf, IsSplit, is_open_need, is_undecided}}

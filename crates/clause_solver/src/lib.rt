@@ -2,6 +2,7 @@
 //! backtracks up to the first found leaf, within a budget of failed leaves.
 #![tactic(auto)]
 
+mod book_solver;
 mod decision;
 mod formula;
 mod laws;
@@ -15,9 +16,9 @@ mod table;
 mod trail;
 mod tree_walk;
 
-// A search, or a solver that is asked many times.
+// A search, or a book with its solver that is asked many times.
+pub use book_solver::{BookSolver, search};
 pub use outcomes::{Outcome, Verdict};
-pub use solver::{Solver, search};
 
 // A verdict depends on nothing but what the goals reach.
 pub use laws::verdict_is_local;

@@ -1,6 +1,7 @@
 -- for the bodies of this crate alone
 -- Tables whose lists ascend.
-use Rattle.std.specs.{Prelude.{ℕ, List, [], ◌∷◌}, Coded.{×_prop, Unit-prop, le_prop}}
+use Rattle.std.specs.Prelude.{ℕ, List}
+use Rattle.clause_pool.specs.Props.{Ascending-prop}
 use Rattle.row_book.specs.Book.{listed_for}
 use Rattle.listed.specs.Lists.{Ascending}
 
@@ -9,9 +10,5 @@ abbrev pub AreAscending : List (List ℕ) → Type 0
 AreAscending table = (p : ℕ) → Ascending (listed_for table p)
 
 -- this has one proof at most, so that a struct may keep it
-Ascending-prop : (xs : List ℕ) → IsProp (Ascending xs)
-Ascending-prop [] = Unit-prop
-Ascending-prop (x ∷ xs) = ×_prop (hlevel le_prop) (Ascending-prop xs)
-
 pub AreAscending-prop : (table : List (List ℕ)) → IsProp (AreAscending table)
 AreAscending-prop table = hlevel Ascending-prop

@@ -6,21 +6,21 @@ use Rattle.std.specs.Prelude.{ltb}
 use Rattle.listed.proofs.Lists.{contains_in, in_contains, In_append_cases, In_append_left, In_append_right, In_map, In_map_cases, filter_cases, filter_from}
 use Rattle.listed.proofs.Bools.{cases_Option}
 use Rattle.clause_pool.specs.Interned.{Interned}
-use Rattle.clause_solver.specs.{declared.outcomes.Verdict.TheVariants.{No, Spent}, declared.solver.Solver.{Solver}, Engine.{IsEngine}, Solvers.{IsReady}}
-use Rattle.clause_solver.proofs.{Calm.{range_whole}, Preparing.{clash_part, engine_goals}}
+use Rattle.clause_solver.specs.declared.outcomes.Verdict.TheVariants.{No, Spent}
+use Rattle.clause_solver.proofs.Preparing.{clash_part}
 use Rattle.relation_fields.specs.{declared.packages.Home.{Home}, declared.packages.PackageFacts.{PackageFacts}}
 use Rattle.repo_model.specs.{Repository.{suite_repository}, declared.goals.Goal.{Goal}}
-use Rattle.row_book.specs.{Book.{are_paired, listed_for, lists_of_pairs, repository_of, PairsFit}, Numbers.{numbers}, Needs.{NeedsFit}, Repository.{Repository}}
-use Rattle.row_book.specs.{Rounds.{kernel}, declared.book.Book.{Book}, declared.pair.Pair.{Pair}}
+use Rattle.row_book.specs.{Book.{are_paired, listed_for, lists_of_pairs, repository_of, PairsFit, Sound}, Numbers.{numbers}, Needs.{NeedsFit}}
+use Rattle.row_book.specs.{Repository.{Repository}, Rounds.{kernel}, declared.book.Book.{Book}, declared.pair.Pair.{Pair}}
 use Rattle.listed.specs.Lists.{In}
-use Rattle.row_book.proofs.{BookRepositories.{book_size}, Pairs.{length_pairs, at_pairs}}
+use Rattle.row_book.proofs.Pairs.{at_pairs, length_pairs, pairs_conflict}
 use Rattle.search_terms.specs.{declared.literals.Literal.{Literal}, Closure.{Clashes, InRange}}
 use Rattle.search_terms.specs.Form.{clause_sentence, conflict_sentence, form, goal_sentence, owned_sentences, repository_form}
 use Rattle.search_terms.specs.{Tree.{Tree, IsTree, failed_leaves, found_of}, Tree.Tree.{failed_leaf, found_leaf, split}}
-use Rattle.search_terms.proofs.{Computed.{search_tree_is}, Forms.{from_owned_sentences, in_owned_sentences}}
+use Rattle.search_terms.proofs.{Computed.{search_tree_is}, Forms.{from_owned_sentences, in_owned_sentences}, Ranges.{form_ranged, rows_long}}
 use Rattle.suite_compare.specs.Asking.{asked_tree, image_of, images_of, tree_of, verdict_in, verdict_of}
 use Rattle.suite_compare.proofs.Deciding.{asked_is}
-use Rattle.explain_core.specs.{Only.{only}, Reasons.{tree_over, verdict_over}, Solving.{SolvesAny}}
+use Rattle.explain_core.specs.{Only.{only}, Reasons.{tree_over, verdict_over}}
 use Rattle.explain_core.proofs.Overs.{no_from, no_none, paired_more}
 
 -- a tree that finds nothing has a failed leaf
@@ -112,19 +112,19 @@ more_pairs R goals fewer more within s i = elim (In_append_cases (map goal_sente
         subst (λ xs. In w.1 xs) (sym (at_pairs more (length R.clauses) w.0 l)) (filter_from (are_paired more w.0) (numbers (length R.clauses) 0) w.1 parts.0 (paired_more fewer more within w.0 w.1 parts.1)) in
         subst (λ z. In z (owned_sentences conflict_sentence 0 (lists_of_pairs more (length R.clauses)))) (sym w.4) (in_owned_sentences conflict_sentence 0 (lists_of_pairs more (length R.clauses)) w.0 w.1 there_too)
 
-module _ (pool : Interned) (book : Book) (solver : Solver) (any : SolvesAny pool book solver) (budget : ℕ) (goals : List (List ℕ)) (needs : NeedsFit (length book.rows) goals) where
+module _ (pool : Interned) (book : Book) (sound : Sound pool book) (budget : ℕ) (goals : List (List ℕ)) (needs : NeedsFit (length book.rows) goals) where
   abbrev R : Repository
   R = repository_of pool book
 
   -- the formula of chosen conflicts is of the packages
   ranged : (pairs : List Pair) → PairsFit pairs (length book.rows) → InRange (length R.clauses) (form (only R pairs) goals)
   ranged pairs fit =
-      let ready : IsReady (only R pairs) solver = any.ready pairs fit in
-      let engine : IsEngine solver.classes (map goal_sentence goals) solver.own.items solver.uses.items (lists_of_pairs pairs (length R.clauses)) =
-      engine_goals solver.classes (length book.rows) goals (map goal_sentence goals) solver.own.items solver.uses.items (lists_of_pairs pairs (length R.clauses)) refl (ready.size ∙ book_size pool book) needs ready.engine in
-      let whole = range_whole solver.classes (map goal_sentence goals) solver.own.items solver.uses.items (lists_of_pairs pairs (length R.clauses)) engine in
-      subst (λ n. InRange n (form (only R pairs) goals)) ready.size
-      (subst (λ own. InRange solver.classes (map goal_sentence goals ++ (own ++ owned_sentences conflict_sentence 0 (lists_of_pairs pairs (length R.clauses))))) ready.sentences whole)
+      let long : length R.clauses ≡ length book.rows = rows_long pool book.rows in
+      let fit_size : PairsFit pairs (length R.clauses) = subst (λ n. PairsFit pairs n) (sym long) fit in
+      let paired : length (lists_of_pairs pairs (length R.clauses)) ≡ length book.rows = length_pairs pairs (length R.clauses) ∙ long in
+      let chosen : Book = record { rows = book.rows; conflicts = lists_of_pairs pairs (length R.clauses); paired = paired; few = book.few } in
+      let chosen_sound : Sound pool chosen = record { rows = sound.rows; conflicts = pairs_conflict pairs (length R.clauses) fit_size } in
+      subst (λ n. InRange n (form (only R pairs) goals)) (sym long) (form_ranged pool chosen goals chosen_sound paired needs)
 
   tree_is : (pairs : List Pair) → PairsFit pairs (length book.rows) → IsTree (length R.clauses) (form (only R pairs) goals) [] (tree_over R goals pairs)
   unfolding tree_of

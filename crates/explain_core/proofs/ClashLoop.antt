@@ -5,8 +5,7 @@ use Rattle.std.proofs.Math.Seq.{drop-nil}
 use Rattle.std.specs.{Prelude.{is_some, ltb}, Option.{option_map}}
 use Rattle.listed.proofs.Lists.{in_take, In_drop, In_append_cases, In_append_left, In_append_right, In_cases, In_none}
 use Rattle.clause_pool.specs.Interned.{Interned, row_at}
-use Rattle.clause_solver.specs.{Verdicts.{IsSearchVerdict}, declared.solver.Solver.{Solver}, declared.outcomes.Verdict.{Verdict}}
-use Rattle.clause_solver.specs.declared.outcomes.Verdict.TheVariants.{Yes, No, Spent}
+use Rattle.clause_solver.specs.{Verdicts.{IsSearchVerdict}, declared.outcomes.Verdict.{Verdict}, declared.outcomes.Verdict.TheVariants.{Yes, No, Spent}}
 use Rattle.row_book.specs.{Book.{lists_of_pairs, repository_of, PairsFit, Sound}, Needs.{NeedsFit}, Repository.{Repository}, Sets.{NumSet}}
 use Rattle.row_book.specs.{Sound.{SoundRepository}, declared.book.Book.{Book}, declared.pair.Pair.{Pair}}
 use Rattle.listed.specs.Lists.{In, here, there}
@@ -15,7 +14,6 @@ use Rattle.search_terms.proofs.Ranges.{rows_long}
 use Rattle.suite_compare.specs.Asking.{tree_of, verdict_of}
 use Rattle.suite_compare.proofs.Judged.{verdict_is}
 use Rattle.explain_core.specs.{Deletion.{Kept, is_no, items_of, kept_behind, kept_by, kept_of}, Only.{conflicts_within, only, pair}, Reach.{IsReach}}
-use Rattle.explain_core.specs.Solving.{SolvesAny}
 use Rattle.explain_core.specs.Reasons.{clashes_of, conflicts_reached, is_spent, reasons_among, reasons_of, told_pairs, tree_over, verdict_over}
 use Rattle.explain_core.specs.declared.explanation.Clash.{Clash}
 use Rattle.search_terms.specs.Tree.{Tree, failed_leaves, found_of}
@@ -104,15 +102,15 @@ over_is pool book chosen pairs goals budget v rows conflicts sound fit w =
     ∙ ap (λ S. verdict_of budget (tree_of S goals)) (chosen_is pool book chosen pairs rows conflicts)
 
 -- where the goals clash at once by the others of a block of pairs, the block is left out
-pub clash_block : (pool : Interned) (book : Book) (solver : Solver) (any : SolvesAny pool book solver) (budget : ℕ) (goals : List (List ℕ)) (needs : NeedsFit (length book.rows) goals)
+pub clash_block : (pool : Interned) (book : Book) (sound : Sound pool book) (budget : ℕ) (goals : List (List ℕ)) (needs : NeedsFit (length book.rows) goals)
     (pairs : List Pair) (clashes : List Clash) (others : List Pair) (place count : ℕ) → 0 < budget → PairsFit (told_pairs clashes) (length book.rows) → PairsFit pairs (length book.rows) →
     others ≡ told_pairs clashes ++ drop (place + count) pairs → is_no (verdict_over (repository_of pool book) 1 goals others) ≡ true →
     kept_of (verdict_over (repository_of pool book) budget goals) pairs ≡ kept_behind (verdict_over (repository_of pool book) budget goals) (kept_clashes clashes) (drop place pairs) →
     kept_of (verdict_over (repository_of pool book) budget goals) pairs ≡ kept_behind (verdict_over (repository_of pool book) budget goals) (kept_clashes clashes) (drop (place + count) pairs)
-clash_block pool book solver any budget goals needs pairs clashes others place count some front whole made clash =
+clash_block pool book sound budget goals needs pairs clashes others place count some front whole made clash =
     clash_skip (verdict_over (repository_of pool book) budget goals) pairs clashes others place count made
     (λ more within of.
-    pairs_at_once pool book solver any budget goals needs others more (others_fit (length book.rows) clashes pairs others (place + count) made front whole) (fit more of) within
+    pairs_at_once pool book sound budget goals needs others more (others_fit (length book.rows) clashes pairs others (place + count) made front whole) (fit more of) within
     (no_is (verdict_over (repository_of pool book) 1 goals others) clash) some)
   where
     fit : (more : List Pair) → ((x : Pair) → In x more → In x (told_pairs clashes) ⊎ In x pairs) → PairsFit more (length book.rows)

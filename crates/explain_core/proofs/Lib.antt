@@ -1,6 +1,5 @@
 pub mod Deleted
 pub mod Reached
-pub mod AnyConflicts
 pub mod Told
 pub mod Cores
 pub mod Overs

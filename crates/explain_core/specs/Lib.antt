@@ -4,7 +4,6 @@ pub mod Picking
 pub mod Reach
 pub mod Meeting
 pub mod Only
-pub mod Solving
 pub mod Reasons
 pub mod Explaining
 pub mod Meaning

@@ -1,17 +1,16 @@
 //! The conflicts that matter: one conflict after another is left out, as long as the search with the others finds nothing.
 ghost use Rattle.std.specs.{Prelude.{◌≡◌, ◌++◌, IfOk, OnOk, length}, Option.{option_map}};
 ghost use Rattle.clause_solver.specs.Outcomes.{IsBudget};
-ghost use Rattle.row_book.specs.{Book.{repository_of, PairsFit}, Needs.{NeedsFit}, declared.pair.Pair.{Pair}};
+ghost use Rattle.row_book.specs.{Book.{repository_of, PairsFit}, Lent.{repository_in}, Needs.{NeedsFit}, declared.pair.Pair.{Pair}};
 ghost use Rattle.explain_core.specs.{Deletion.{is_no, kept_by, kept_of}, Reasons.{clashes_of, is_spent, reasons_of, told_pairs, verdict_over}};
-ghost use Rattle.explain_core.specs.Solving.{SolvesAny};
 
 use crate::blocks::{block_behind, count_of, half, is_no, twice};
 use crate::conflicts::conflicts_within;
 use crate::explanation::{Clash, ClashList};
 use crate::reach::reach_of;
-use clause_pool::Pool;
-use clause_solver::{Solver, Verdict};
-use row_book::{Book, Needs, Pair};
+use crate::solved::SolvedBook;
+use clause_solver::{BookSolver, Verdict};
+use row_book::{Book, LentBook, Needs, Pair};
 use std::alloc::{AllocError, Global};
 use suite_compare::SuiteView;
 
@@ -26,43 +25,42 @@ fn is_spent(verdict: Verdict) -> bool
     }
 }
 
-/// The verdict on the goals where these pairs alone conflict. The solver has the formula of the clauses, made once; the pairs are
+/// The verdict on the goals if these pairs alone conflict. The solver has the formula of the clauses, made once; the pairs are
 /// those of a book of their own.
 fn verdict_over(
     alloc: Global,
-    pool: &Pool,
-    book: &Book,
-    solver: &Solver,
+    asked: &SolvedBook,
     goals: &Needs,
     pairs: &[Pair],
     budget: u64,
 ) -> Result<Verdict, AllocError>
-    requires solver { SolvesAny pool.now book.now solver.now }
-    requires goals { NeedsFit (length book.now.rows) goals.now }
-    requires pairs { PairsFit pairs.now (length book.now.rows) }
+    requires goals { NeedsFit (length asked.now.book.book.now.rows) goals.now }
+    requires pairs { PairsFit pairs.now (length asked.now.book.book.now.rows) }
     requires budget { IsBudget budget }
-    ensures { IfOk result (λ verdict. verdict ≡ verdict_over (repository_of pool.now book.now) budget goals.now pairs.now) }
+    ensures { IfOk result (λ verdict. verdict ≡ verdict_over (repository_in asked.now.book) budget goals.now pairs.now) }
 {
-    let chosen = Book::build(alloc, pool, book.rows.as_slice(), pairs)?;
-    let verdict = solver.verdict(alloc, pool, &chosen, goals, budget)?;
+    let pool = asked.book.pool;
+    let chosen = Book::build(alloc, pool, asked.book.book.rows.as_slice(), pairs)?;
+    let other = LentBook {
+        pool,
+        book: &chosen,
+    };
+    let verdict = asked.solver.verdict_in(alloc, &other, goals, budget)?;
     Ok(verdict)
 }
 
 /// Whether the goals clash at once where these pairs alone conflict: the whole tree is one failed leaf.
 fn clash_at_once(
     alloc: Global,
-    pool: &Pool,
-    book: &Book,
-    solver: &Solver,
+    asked: &SolvedBook,
     goals: &Needs,
     pairs: &[Pair],
 ) -> Result<bool, AllocError>
-    requires solver { SolvesAny pool.now book.now solver.now }
-    requires goals { NeedsFit (length book.now.rows) goals.now }
-    requires pairs { PairsFit pairs.now (length book.now.rows) }
-    ensures { IfOk result (λ clash. clash ≡ is_no (verdict_over (repository_of pool.now book.now) 1 goals.now pairs.now)) }
+    requires goals { NeedsFit (length asked.now.book.book.now.rows) goals.now }
+    requires pairs { PairsFit pairs.now (length asked.now.book.book.now.rows) }
+    ensures { IfOk result (λ clash. clash ≡ is_no (verdict_over (repository_in asked.now.book) 1 goals.now pairs.now)) }
 {
-    let verdict = verdict_over(alloc, pool, book, solver, goals, pairs, 1)?;
+    let verdict = verdict_over(alloc, asked, goals, pairs, 1)?;
     Ok(is_no(verdict))
 }
 
@@ -103,21 +101,18 @@ fn tell_by(clashes: &mut ClashList, pair: Pair, verdict: Verdict) -> Result<(), 
 /// The conflicts among the pairs that matter for the goals.
 fn reasons_among(
     alloc: Global,
-    pool: &Pool,
-    book: &Book,
-    solver: &Solver,
+    asked: &SolvedBook,
     goals: &Needs,
     pairs: &[Pair],
     budget: u64,
 ) -> Result<ClashList, AllocError>
-    requires solver { SolvesAny pool.now book.now solver.now }
-    requires goals { NeedsFit (length book.now.rows) goals.now }
-    requires pairs { PairsFit pairs.now (length book.now.rows) }
+    requires goals { NeedsFit (length asked.now.book.book.now.rows) goals.now }
+    requires pairs { PairsFit pairs.now (length asked.now.book.book.now.rows) }
     requires budget { IsBudget budget }
-    ensures { IfOk result (λ clashes. clashes ≡ clashes_of (kept_of (verdict_over (repository_of pool.now book.now) budget goals.now) pairs.now)) }
+    ensures { IfOk result (λ clashes. clashes ≡ clashes_of (kept_of (verdict_over (repository_in asked.now.book) budget goals.now) pairs.now)) }
 {
     let mut clashes = ClashList::new(alloc);
-    let mut at_once = clash_at_once(alloc, pool, book, solver, goals, pairs)?;
+    let mut at_once = clash_at_once(alloc, asked, goals, pairs)?;
     let mut block: u64 = 1;
     let mut place: usize = 0;
     while place < pairs.len() {
@@ -126,7 +121,7 @@ fn reasons_among(
         let rest = made.as_slice();
         if count > 1 {
             // Where the goals clash at once by the others of the whole block, so they do by more, and no pair of the block matters.
-            if clash_at_once(alloc, pool, book, solver, goals, rest)? {
+            if clash_at_once(alloc, asked, goals, rest)? {
                 place += count;
                 block = twice(count as u64);
                 continue;
@@ -134,9 +129,9 @@ fn reasons_among(
             block = half(count as u64);
             continue;
         }
-        let verdict = verdict_over(alloc, pool, book, solver, goals, rest, budget)?;
+        let verdict = verdict_over(alloc, asked, goals, rest, budget)?;
         if at_once && is_no(verdict) {
-            at_once = clash_at_once(alloc, pool, book, solver, goals, rest)?;
+            at_once = clash_at_once(alloc, asked, goals, rest)?;
         }
         block = block_behind(at_once, verdict);
         tell_by(&mut clashes, pairs[place], verdict)?;
@@ -160,11 +155,13 @@ pub(crate) fn clashes_for(
     let book = &view.book;
     let reach = reach_of(alloc, pool, book, goals)?;
     let pairs = conflicts_within(alloc, pool, book, reach.as_slice())?;
-    let solver = Solver::new(alloc, pool, book)?;
-    let verdict = verdict_over(alloc, pool, book, &solver, goals, pairs.as_slice(), budget)?;
+    let lent = LentBook { pool, book };
+    let solver = BookSolver::new(alloc, &lent)?;
+    let asked = SolvedBook { book: lent, solver };
+    let verdict = verdict_over(alloc, &asked, goals, pairs.as_slice(), budget)?;
     if is_spent(verdict) {
         return Ok(None);
     }
-    let clashes = reasons_among(alloc, pool, book, &solver, goals, pairs.as_slice(), budget)?;
+    let clashes = reasons_among(alloc, &asked, goals, pairs.as_slice(), budget)?;
     Ok(Some(clashes))
 }

@@ -8,8 +8,9 @@ use crate::asking::{classes_of, wanted_by};
 use crate::clashes::clashes_for;
 use crate::explanation::{ExplainError, Explanation};
 use crate::goals::{core_of, marked};
-use clause_solver::{Solver, Verdict};
+use clause_solver::{BookSolver, Verdict};
 use repo_model::Goal;
+use row_book::LentBook;
 use std::alloc::Global;
 use suite_compare::SuiteView;
 
@@ -29,8 +30,12 @@ pub fn explain(
 {
     let wanted = wanted_by(alloc, view, goals)?;
     let classes = classes_of(alloc, view, goals, &wanted)?;
-    let solver = Solver::new(alloc, &view.pool, &view.kernel.book)?;
-    let verdict = solver.verdict(alloc, &view.pool, &view.kernel.book, &classes, budget)?;
+    let kernel = LentBook {
+        pool: &view.pool,
+        book: &view.kernel.book,
+    };
+    let solver = BookSolver::new(alloc, &kernel)?;
+    let verdict = solver.verdict(alloc, &classes, budget)?;
     match verdict {
         Verdict::Yes => Ok(Explanation::Yes),
         Verdict::Spent => Ok(Explanation::Spent { failed: budget + 1 }),

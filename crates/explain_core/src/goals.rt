@@ -1,13 +1,13 @@
 //! The core of the goals: one goal after another is left out, as long as the others cannot be installed together.
 ghost use Rattle.std.specs.Prelude.{◌≡◌, ◌-◌, ◌≤◌, ◌<◌, ◌++◌, IfOk, OnOk, drop, length};
-ghost use Rattle.clause_solver.specs.{Outcomes.{IsBudget}, Solvers.{IsReady}};
+ghost use Rattle.clause_solver.specs.Outcomes.{IsBudget};
 ghost use Rattle.row_book.specs.{Book.{repository_of}, Needs.{NeedsFit}};
 ghost use Rattle.suite_compare.specs.Asking.{images_of, tree_of, verdict_of};
 ghost use Rattle.explain_core.specs.{Core.{goal_core, marks_of}, Deletion.{is_no, kept_by}, Picking.{picked, ArePlacesFrom1}};
 
 use crate::blocks::{block_behind, count_of, half, is_no, twice};
 use crate::explanation::{Mark, MarkList};
-use clause_solver::{Solver, Verdict};
+use clause_solver::{BookSolver, Verdict};
 use repo_model::Goal;
 use row_book::Needs;
 use std::alloc::{AllocError, Global};
@@ -78,14 +78,14 @@ fn mark_by(marks: &mut MarkList, goal: u64, verdict: Verdict) -> Result<(), Allo
 fn clash_at_once(
     alloc: Global,
     view: &SuiteView,
-    solver: &Solver,
+    solver: &BookSolver,
     classes: &Needs,
 ) -> Result<bool, AllocError>
-    requires ready { IsReady (repository_of view.now.pool view.now.kernel.book) solver.now }
+    requires solver { solver.now ≡ repository_of view.now.pool view.now.kernel.book }
     requires fit { NeedsFit (length view.now.kernel.book.rows) classes.now }
     ensures { IfOk result (λ clash. clash ≡ is_no (verdict_of 1 (tree_of (repository_of view.now.pool view.now.kernel.book) classes.now))) }
 {
-    let verdict = solver.verdict(alloc, &view.pool, &view.kernel.book, classes, 1)?;
+    let verdict = solver.verdict(alloc, classes, 1)?;
     Ok(is_no(verdict))
 }
 
@@ -93,12 +93,12 @@ fn clash_at_once(
 pub(crate) fn core_of(
     alloc: Global,
     view: &SuiteView,
-    solver: &Solver,
+    solver: &BookSolver,
     goals: &[Goal],
     classes: &Needs,
     budget: u64,
 ) -> Result<MarkList, AllocError>
-    requires ready { IsReady (repository_of view.now.pool view.now.kernel.book) solver.now }
+    requires solver { solver.now ≡ repository_of view.now.pool view.now.kernel.book }
     requires classes { classes.now ≡ images_of view.now.limit view.now.kernel.hold view.now.suite.home view.now.suite.packages goals.now }
     requires budget { IsBudget budget }
     ensures { IfOk result (λ marks. marks ≡ marks_of (goal_core view.now.limit view.now.kernel.hold view.now.suite.home view.now.suite.packages budget goals.now)) }
@@ -121,7 +121,7 @@ pub(crate) fn core_of(
             block = half(count);
             continue;
         }
-        let verdict = solver.verdict(alloc, &view.pool, &view.kernel.book, &rest, budget)?;
+        let verdict = solver.verdict(alloc, &rest, budget)?;
         if at_once && is_no(verdict) {
             at_once = clash_at_once(alloc, view, solver, &rest)?;
         }

@@ -11,6 +11,7 @@ mod goals;
 mod laws;
 mod met;
 mod reach;
+mod solved;
 
 // Goals are explained.
 pub use explaining::explain;

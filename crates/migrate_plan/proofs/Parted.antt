@@ -9,10 +9,10 @@ use Rattle.kernel_rounds.{specs.Extracting.{IsExtracted}, specs.Known.{AreKnownR
 use Rattle.relation_fields.{specs.declared.packages.Home.{Home}, specs.declared.packages.PackageFacts.{PackageFacts}}
 use Rattle.repo_model.{specs.Goals.{any_version, packages_named}, specs.Repository.{suite_repository}, specs.declared.goals.Goal.{Goal}, proofs.Packages.{length_clauses}}
 use Rattle.row_book.{specs.Book.{listed_for, repository_of}, specs.Flags.{flag}, specs.Flattening.{flat, packages, passes}, specs.Numbers.{numbers}, specs.Parts.{number_in, part, place_in}, specs.Repository.{Repository}}
-use Rattle.row_book.{specs.Rounds.{PassedRound, kernel, kernel_class, limit_at}, specs.Sound.{SoundRepository}, specs.declared.book.Book.{Book}}
+use Rattle.row_book.{specs.Rounds.{PassedRound, kernel, kernel_class, limit_at}, specs.Sound.{SoundRepository}, specs.declared.book.Book.{Book}, specs.declared.lent_book.LentBook.{LentBook}}
 use Rattle.row_book.proofs.{BookRepositories.{sound_repository}, Flags.{flag_in}, Numbers.{at_numbers, length_numbers}, PartSound.{part_sound}}
 use Rattle.row_book.proofs.{Parts.{map_alike, part_count}, Placed.{place_below}}
-use Rattle.suite_compare.{specs.Bearers.{bearer_classes, bearers_of, AreClasses}, specs.Groups.{AreEach}, specs.Lent.{IsLentKernel}, specs.Views.{IsBookOf}, specs.declared.lent.LentKernel.{LentKernel}, proofs.Bearing.{images_are}, proofs.Gathering.{named_inside}}
+use Rattle.suite_compare.{specs.Bearers.{bearer_classes, bearers_of, AreClasses}, specs.Groups.{AreEach}, specs.Lent.{IsLentKernel}, specs.Views.{IsBookOf}, proofs.Bearing.{images_are}, proofs.Gathering.{named_inside}}
 use Rattle.suite_part.{specs.Mixes.{AreMixRows}, specs.declared.base.Base.{Base}, proofs.LawRows.{names_part, repository_part}}
 use Rattle.migrate_plan.specs.Whole.{book_made, classes_made, packages_of_both, pool_made, CanFollow, HasMixRows, IsKernelAt, IsMadeKernel, IsWhole, KnowsRounds}
 use Rattle.migrate_plan.specs.{declared.kernels.MadeKernel.{MadeKernel}, declared.whole.Whole.{Whole}, declared.kernels.MadeKernel.TheVariants.{Beside, Own}}
@@ -153,10 +153,8 @@ module _ (whole : Whole) (is : IsWhole whole) (flags : List Bool) (fits : length
     pub mix_within : limit_at limit hold (suite_repository whole.home mix) ≡ None
     mix_within = ap (limit_at limit hold) (sym mix_is) ∙ given.within
 
-    pub lent_is : (lent : LentKernel) → lent.pool.now ≡ pool_made made → lent.book.now ≡ book_made made → IsLentKernel lent limit hold (suite_repository whole.home mix)
-    lent_is lent pool book =
-        subst (λ R. IsBookOf lent.pool.now lent.book.now (kernel limit hold R)) mix_is
-        (subst (λ p. IsBookOf p lent.book.now (kernel limit hold (part flags W))) (sym pool) (subst (λ b. IsBookOf (pool_made made) b (kernel limit hold (part flags W))) (sym book) given.book_is))
+    pub lent_is : (lent : LentBook) → lent.pool.now ≡ pool_made made → lent.book.now ≡ book_made made → IsLentKernel lent limit hold (suite_repository whole.home mix)
+    lent_is lent pool book = ap₂ repository_of pool book ∙ given.book_is.repository ∙ ap (kernel limit hold) mix_is
 
     pub bearers_within : (named : List (List ℕ)) → named ≡ whole.named.items → (list : List ℕ) → In list named → (n : ℕ) → In n list → n < length flags
     bearers_within named e list i n j =

@@ -1,10 +1,11 @@
 //! The kernels of mixes.
 ghost use Rattle.std.specs.Prelude.{◌≡◌};
+ghost use Rattle.row_book.specs.Book.{Sound};
 ghost use Rattle.migrate_plan.specs.Whole.{book_made, classes_made, pool_made};
 
 use clause_pool::{Pool, RowId};
 use kernel_rounds::{Classified, Kernel};
-use suite_compare::LentKernel;
+use row_book::LentBook;
 
 /// A kernel that was made of a mix, with the class of each package in the numbers of the whole.
 #[derive(Drop)]
@@ -23,16 +24,17 @@ pub(crate) enum MadeKernel {
 }
 
 /// The kernel as a comparison asks it.
-pub(crate) fn lent_kernel(made: &MadeKernel) -> LentKernel<'_>
+pub(crate) fn lent_kernel(made: &MadeKernel) -> LentBook<'_>
+    requires { Sound (pool_made made.now) (book_made made.now) }
     ensures pool { result.pool.now ≡ pool_made made.now }
     ensures book { result.book.now ≡ book_made made.now }
 {
     match made {
-        MadeKernel::Own { pool, kernel, .. } => LentKernel {
+        MadeKernel::Own { pool, kernel, .. } => LentBook {
             pool,
             book: &kernel.book,
         },
-        MadeKernel::Beside { classified, .. } => LentKernel {
+        MadeKernel::Beside { classified, .. } => LentBook {
             pool: &classified.rounds.pool,
             book: &classified.rounds.kernel,
         },

@@ -7,7 +7,7 @@ ghost use Rattle.migrate_plan.specs.{Differing.{differing}, Indexes.{AreMeasured
 ghost use Rattle.migrate_plan.specs.Plan.{line_behind, lines_behind, plan, settings_of, taken_in};
 ghost use Rattle.migrate_plan.specs.{Promises.{AreRight, MixesAreIndexes, TakesSafely, planned_name}, Refusals.{Refuses, packages_with, plan_refusal}};
 ghost use Rattle.migrate_plan.specs.{Whole.{names_between, settings_between, AreTextsOf, IsCarried, IsWhole}, declared.plan.PlanLine.{PlanLine}};
-ghost use Rattle.suite_compare.specs.{Comparing.{IsOldSide}, Refusals.{packages_in}};
+ghost use Rattle.suite_compare.specs.Refusals.{packages_in};
 
 use crate::carried::{Carried, first_carried};
 use crate::checks::{check_homes, check_length, check_names, check_packages};
@@ -132,7 +132,6 @@ fn lines_with(
     new: &Suite,
     names: &[Bytes],
 ) -> Result<PlanList, AllocError>
-    requires side { IsOldSide old.now }
     requires names { names.now ≡ differing old.now.view.now.suite.packages new.now.packages }
     requires few { packages_with old.now.view.now.suite.packages new.now.packages names.now ≤ most_packages }
     requires limit { 0 < old.now.view.now.limit }
@@ -147,7 +146,6 @@ fn lines_with(
 
 // The same, where it is known what all mixes are made of.
 fn lines_beside(alloc: Global, whole: &Whole, names: &[Bytes]) -> Result<PlanList, AllocError>
-    requires side { IsOldSide whole.now.old.now }
     requires whole { IsWhole whole.now }
     requires names { names.now ≡ names_between whole.now }
     requires limit { 0 < whole.now.old.now.view.now.limit }
@@ -166,7 +164,6 @@ fn lines_after(
     names: &[Bytes],
     carried: &mut Carried,
 ) -> Result<PlanList, AllocError>
-    requires side { IsOldSide whole.now.old.now }
     requires whole { IsWhole whole.now }
     requires names { names.now ≡ names_between whole.now }
     requires limit { 0 < whole.now.old.now.view.now.limit }
@@ -191,7 +188,6 @@ fn try_name(
     name: &[u8],
     carried: &mut Carried,
 ) -> Result<PlanLine, AllocError>
-    requires side { IsOldSide whole.now.old.now }
     requires whole { IsWhole whole.now }
     requires taken { (other : List ℕ) → In other taken.now → In other (names_between whole.now) }
     requires name { In name.now (names_between whole.now) }

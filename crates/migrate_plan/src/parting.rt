@@ -2,7 +2,7 @@
 ghost use Rattle.std.specs.{Prelude.{◌≡◌, ◌<◌, ◌++◌, Option, Some, None, false, length, IfOk, OnOk}, List.{items_where_true}, Option.{ForSome, option_map}};
 ghost use Rattle.kernel_rounds.specs.Known.{AreKnownRounds};
 ghost use Rattle.row_book.specs.Book.{repository_of, Sound};
-ghost use Rattle.suite_compare.specs.{Comparing.{IsOldSide}, Known.{AreKnownPairs}, Report.{first_told}};
+ghost use Rattle.suite_compare.specs.{Known.{AreKnownPairs}, Report.{first_told}};
 ghost use Rattle.suite_part.specs.declared.base.Base.{Base};
 ghost use Rattle.migrate_plan.specs.{Trying.{outcome_by, told_of}, declared.kernels.MadeKernel.TheVariants.{Beside}};
 ghost use Rattle.migrate_plan.specs.Whole.{packages_of_both, settings_between, HasMixRows, IsBaseFor, IsCarried, IsKernelAt, IsMadeKernel, IsWhole, KnowsRounds};
@@ -48,7 +48,6 @@ pub(crate) fn line_in(
     name: &[u8],
     carried: &mut Carried,
 ) -> Result<PlanLine, AllocError>
-    requires side { IsOldSide whole.now.old.now }
     requires limit { 0 < whole.now.old.now.view.now.limit }
     requires whole { IsWhole whole.now }
     requires flags { length flags.items ≡ length (packages_of_both whole.now) }
@@ -74,7 +73,6 @@ fn told_by(
     made: &MadeKernel,
     carried: &mut Carried,
 ) -> Result<Option<ReportLine>, AllocError>
-    requires side { IsOldSide whole.now.old.now }
     requires whole { IsWhole whole.now }
     requires flags { length flags.now ≡ length (packages_of_both whole.now) }
     requires kernel { let before = whole.now.old.now.view.now in IsMadeKernel before.limit before.kernel.hold (repository_of whole.now.pool whole.now.book) flags.now made.now }
@@ -88,7 +86,6 @@ fn told_by(
     let kernel = lent_kernel(made);
     let classes = classes_of_chosen(alloc, classes_in(made), &whole.named, flags)?;
     let first = first_line_by(alloc, whole.old, &kernel, classes, carried.known.take());
-    drop(kernel);
     let FirstLine { line, known } = first?;
     carried.known = known;
     Ok(line)

@@ -1,7 +1,7 @@
 //! What becomes of a name, by the mix with it.
 ghost use Rattle.std.specs.Prelude.{◌≡◌, ◌<◌, List, None, IfOk};
 ghost use Rattle.migrate_plan.specs.{Plan.{outcome_of, settings_of}, Trying.{outcome_by, told_of, IsViewAt}};
-ghost use Rattle.suite_compare.specs.{Comparing.{IsOldSide}, Report.{first_told}, declared.report.ReportLine.{ReportLine}};
+ghost use Rattle.suite_compare.specs.{Report.{first_told}, declared.report.ReportLine.{ReportLine}};
 
 use crate::plan::PlanLine;
 use deb_version::Bytes;
@@ -17,7 +17,6 @@ pub(crate) fn line_of(
     mix: Suite,
     name: &[u8],
 ) -> Result<PlanLine, AllocError>
-    requires side { IsOldSide old.now }
     requires limit { 0 < old.now.view.now.limit }
     ensures { let view = old.now.view.now in let settings = settings_of old.now.budget view.limit view.kernel.hold in IfOk result (λ line. line ≡ outcome_by settings view.suite.home view.suite.packages mix.home mix.packages name.now) }
 {
@@ -42,7 +41,6 @@ fn line_by_view(
     view: &SuiteView,
     name: &[u8],
 ) -> Result<PlanLine, AllocError>
-    requires side { IsOldSide old.now }
     requires limit { view.now.limit ≡ old.now.view.now.limit }
     requires hold { view.now.kernel.hold ≡ old.now.view.now.kernel.hold }
     ensures { let before = old.now.view.now in let settings = settings_of old.now.budget before.limit before.kernel.hold in IfOk result (λ line. line ≡ outcome_of name.now None (told_of settings before.suite.home before.suite.packages view.now.suite.home view.now.suite.packages)) }

@@ -19,3 +19,5 @@ pub mod Thinning
 pub mod Rounds
 pub mod Trail
 pub mod Parts
+pub mod Props
+pub mod Lent

@@ -7,6 +7,7 @@ mod clause_table;
 mod comparing;
 mod conflicting;
 mod health;
+mod lent_book;
 mod moving;
 mod needs;
 mod pair;
@@ -17,6 +18,7 @@ mod uses;
 
 // Books: the clauses and conflicts of numbered packages.
 pub use book::{Book, ConflictTable, RowList};
+pub use lent_book::LentBook;
 pub use needs::Needs;
 pub use pair::Pair;
 

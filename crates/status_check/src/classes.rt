@@ -8,11 +8,11 @@ ghost use Rattle.suite_compare.specs.{Asking.{images_of}, Kinds.{kernel_verdict}
 ghost use Rattle.status_check.specs.Report.{goal_for, had_goals, is_had, line_for, state_of};
 
 use crate::report::{HaveLine, HaveList, SuiteState};
-use clause_solver::{Solver, Verdict};
+use clause_solver::{BookSolver, Verdict};
 use deb_version::Bytes;
 use relation_fields::PackageFacts;
 use repo_model::Suite;
-use row_book::Needs;
+use row_book::{LentBook, Needs};
 use std::alloc::{AllocError, Global};
 use suite_compare::{SuiteView, image_of};
 
@@ -76,8 +76,12 @@ pub(crate) fn suite_state(
     requires budget { IsBudget budget }
     ensures { IfOk result (λ state. state ≡ state_of budget (kernel_verdict (repository_of view.now.pool view.now.kernel.book) budget classes.now)) }
 {
-    let solver = Solver::new(alloc, &view.pool, &view.kernel.book)?;
-    let verdict = solver.verdict(alloc, &view.pool, &view.kernel.book, classes, budget)?;
+    let kernel = LentBook {
+        pool: &view.pool,
+        book: &view.kernel.book,
+    };
+    let solver = BookSolver::new(alloc, &kernel)?;
+    let verdict = solver.verdict(alloc, classes, budget)?;
     Ok(state_of(budget, verdict))
 }
 

@@ -1,7 +1,7 @@
 -- Judges that are asked alike, and lists that are compared place by place.
 use Rattle.std.proofs.Common.{◌≡◌, ℕ, ◌<◌, List, [], inl, inr, length, get_or, sym, ◌∙◌, ap, subst}
 use Rattle.row_book.specs.Book.{listed_for}
-use Rattle.suite_compare.{specs.Bad.{AreAllBad, AreBad}, specs.Kinds.{alone, alone_in, kernel_in, together, together_in}, specs.Report.{is_yes}, specs.declared.verdicts.Bad.{Bad}, specs.declared.verdicts.Judge.{Judge}}
+use Rattle.suite_compare.{specs.Bad.{AreAllBad, AreBad}, specs.Kinds.{alone, alone_in, kernel_in, together, together_in}, specs.Report.{is_yes}, specs.declared.verdicts.Bad.{Bad}, specs.declared.judge.Judge.{Judge}}
 
 -- the kinds that are bad with each kind, of a judge of the same kernel and kinds within the same budget
 module _ (judge other : Judge) (kernel : kernel_in other ≡ kernel_in judge) (kinds : other.kinds.items ≡ judge.kinds.items) (budget : other.budget ≡ judge.budget) where

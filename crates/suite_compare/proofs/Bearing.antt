@@ -1,12 +1,11 @@
 -- The packages that bear the names of an old side: which names these are, and the classes of the packages.
 use Rattle.std.{proofs.Common.{◌≡◌, ℕ, ◌<◌, ◌+◌, zero, suc, Bool, true, false, not, eqb, cond, filter, List, [], ◌∷◌, ◌++◌, length, get_or, map, refl, ◌∙◌, ap, ap₂, subst, sym, arith}, specs.Str.{bytes_eq}, proofs.lemmas.Bool.{both_ways, ne_eqb}, proofs.lemmas.List.{append-nil, get_or-map, length-map}, proofs.lemmas.List.Elements.{filter-append}}
-use Rattle.row_book.{specs.Needs.{AreNeeds, NeedsFit}, specs.Book.{listed_for}, specs.Numbers.{numbers}, specs.Repository.{Repository}, specs.declared.book.Book.{Book}, specs.Flattening.{packages}, specs.Rounds.{kernel, kernel_class, kernel_image}, proofs.Numbers.{numbers_more, numbers_parts}}
+use Rattle.row_book.{specs.Needs.{AreNeeds, NeedsFit}, specs.Book.{listed_for}, specs.Numbers.{numbers}, specs.Repository.{Repository}, specs.declared.lent_book.LentBook.{LentBook}, specs.Flattening.{packages}, specs.Rounds.{kernel, kernel_class, kernel_image}, proofs.Numbers.{numbers_more, numbers_parts}}
 use Rattle.listed.{specs.Lists.{Ascending, has, In}, proofs.Lists.{any_none, filled, filter_cases, filter_same, has_not, In_at, In_map_cases, In_none, In_place, none_in}}
 use Rattle.relation_fields.{specs.declared.packages.Home.{Home}, specs.declared.packages.PackageFacts.{PackageFacts}}
 use Rattle.repo_model.{specs.Goals.{any_version, packages_named}, specs.Repository.{suite_repository}, specs.Stanzas.{no_stanza, stanza_at}, proofs.Chosen.{named_is, number_cases}, proofs.Packages.{length_clauses}}
-use Rattle.clause_pool.specs.Interned.{Interned}
 use Rattle.search_terms.proofs.Ranges.{rows_long}
-use Rattle.suite_compare.{specs.Asking.{image_of}, specs.Bearers.{bearer_classes, bearers_of, filled_places, is_borne, AreClasses, FitsKernel}, specs.Groups.{AreEach}, specs.Names.{stands_in}, specs.Lent.{IsLentKernel}, specs.Views.{IsBookOf}, specs.declared.lent.LentKernel.{LentKernel}, proofs.Gathering.{image_filled, image_made, named_inside, table_of}, proofs.Named.{bearer_of, AreAmong}, proofs.SuiteKernels.{classes_ascending, classes_parts, suite_sound}}
+use Rattle.suite_compare.{specs.Asking.{image_of}, specs.Bearers.{bearer_classes, bearers_of, filled_places, is_borne, AreClasses, FitsKernel}, specs.Groups.{AreEach}, specs.Names.{stands_in}, specs.Lent.{IsLentKernel}, proofs.Gathering.{image_filled, image_made, named_inside, table_of}, proofs.Named.{bearer_of, AreAmong}, proofs.SuiteKernels.{classes_ascending, classes_parts, suite_sound}}
 
 same_items : (xs ys : List (List ℕ)) → length xs ≡ length ys → ((i : ℕ) → i < length xs → listed_for xs i ≡ listed_for ys i) → xs ≡ ys
 same_items [] [] e f = refl
@@ -177,17 +176,16 @@ module _ (limit : ℕ) (hold : Bool) (home : Home) (stanzas : List PackageFacts)
       ∙ sym (get_or-map image names i [] [] m))
 
   -- they fit to the kernel
-  pub images_fit : (pool : Interned) (book : Book) (names classes : List (List ℕ)) → IsBookOf pool book (kernel limit hold R) → classes ≡ bearer_classes limit hold home stanzas names → NeedsFit (length book.rows) classes
-  images_fit pool book names classes is are c i k j =
+  pub images_fit : (lent : LentBook) (names classes : List (List ℕ)) → IsLentKernel lent limit hold R → classes ≡ bearer_classes limit hold home stanzas names → NeedsFit (length lent.book.now.rows) classes
+  images_fit lent names classes is are c i k j =
       let w : (name : List ℕ) × In name names × (c ≡ image name) = In_map_cases image names c (subst (λ z. In c z) are i) in
-      subst (λ z. k < z) (sym (ap (λ R. length R.clauses) is.repository) ∙ rows_long pool book.rows) (image_within w.0 k (subst (λ z. In k z) w.2 j))
+      subst (λ z. k < z) (sym (ap (λ R. length R.clauses) is) ∙ rows_long lent.pool.now lent.book.now.rows) (image_within w.0 k (subst (λ z. In k z) w.2 j))
 
-  pub classes_fit : (lent : LentKernel) (names classes : List (List ℕ)) → IsLentKernel lent limit hold R → classes ≡ bearer_classes limit hold home stanzas names → FitsKernel lent classes
+  pub classes_fit : (lent : LentBook) (names classes : List (List ℕ)) → IsLentKernel lent limit hold R → classes ≡ bearer_classes limit hold home stanzas names → FitsKernel lent classes
   classes_fit lent names classes is are = record {
-    sound = is.sound;
     ascending = λ c i. let w : (name : List ℕ) × In name names × (c ≡ image name) = In_map_cases image names c (subst (λ z. In c z) are i) in
         subst Ascending (sym w.2) (classes_ascending limit hold R (chosen w.0));
-    within = images_fit lent.pool.now lent.book.now names classes is are;
+    within = images_fit lent names classes is are;
   }
 
   -- they are needs, if each name stands in the packages

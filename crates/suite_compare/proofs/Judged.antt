@@ -3,7 +3,7 @@ use Rattle.std.{proofs.Common.{◌≡◌, ℕ, ◌<◌, Bool, true, false, not, 
 use Rattle.listed.{proofs.Lists.{in_cond_cases, in_cond_first, In_flat_cases, In_flat, In_cases, In_none, In_at, has_In}, specs.Lists.{In, has}}
 use Rattle.clause_pool.specs.Interned.{Interned}
 use Rattle.row_book.{specs.Book.{listed_for, repository_of, Sound}, specs.Needs.{AreNeeds, IsNeed, NeedsFit}, specs.Repository.{Repository}, specs.declared.book.Book.{Book}}
-use Rattle.suite_compare.{specs.FirstChoices.{IsFirstChoice}, specs.Bad.{bad, bad_entry, is_bad, AreAllBad, AreBad, AreSingles}, specs.Choices.{ArePeaceful}, specs.Kinds.{alone, alone_in, kernel_in, kernel_verdict, together, together_in, IsJudge}, specs.Asking.{tree_of, verdict_of}, specs.Report.{is_yes}, specs.Suspects.{AreChoices, AreSuspects}, specs.declared.verdicts.Bad.{Bad}, specs.declared.verdicts.Judge.{Judge}, specs.declared.suspect.Choices.{Choices}, proofs.Chosen.{choice_tells, choices_join}}
+use Rattle.suite_compare.{specs.FirstChoices.{IsFirstChoice}, specs.Bad.{bad, bad_entry, is_bad, AreAllBad, AreBad, AreSingles}, specs.Choices.{ArePeaceful}, specs.Kinds.{alone, alone_in, kernel_in, kernel_verdict, together, together_in}, specs.Asking.{tree_of, verdict_of}, specs.Report.{is_yes}, specs.Suspects.{AreChoices, AreSuspects}, specs.declared.verdicts.Bad.{Bad}, specs.declared.judge.Judge.{Judge}, specs.declared.suspect.Choices.{Choices}, proofs.Chosen.{choice_tells, choices_join}}
 use Rattle.search_terms.{specs.Form.{form}, specs.Tree.{Tree, IsTree, failed_leaves}, proofs.Computed.{search_tree_is}, specs.Closure.{InRange}, proofs.Found.{one_tree}, proofs.Ranges.{form_ranged, rows_long}}
 use Rattle.clause_solver.{specs.Verdicts.{IsSearchVerdict, IsVerdictOf}, specs.declared.outcomes.Verdict.{Verdict}, specs.declared.outcomes.Verdict.TheVariants.{Yes, No, Spent}}
 
@@ -62,9 +62,9 @@ pub single_yes : (judge : Judge) (singles : List Verdict) (k : ℕ) (v : Verdict
 single_yes judge singles k v r b l told at is t = ap is_yes (sym (at ∙ single_at judge singles k l told)) ∙ sym is ∙ t
 
 -- the bad kinds of a kind that goes by itself
-pub bad_from : (judge : Judge) (singles : List Verdict) (choices : Choices) (kind : ℕ) (suspects : List ℕ) (list : List Bad) → IsJudge judge → kind < length judge.kinds.items → AreSingles judge singles
-    → AreChoices (kernel_in judge) judge.kinds.items choices → AreSuspects judge.book.now.conflicts choices.of.items kind suspects → list ≡ flat_map (bad_entry judge singles kind) suspects → AreBad judge kind list
-bad_from judge singles choices kind suspects list so l told chosen suspected made = record {
+pub bad_from : (judge : Judge) (singles : List Verdict) (choices : Choices) (kind : ℕ) (suspects : List ℕ) (list : List Bad) → kind < length judge.kinds.items → AreSingles judge singles
+    → AreChoices (kernel_in judge) judge.kinds.items choices → AreSuspects judge.kernel.book.now.conflicts choices.of.items kind suspects → list ≡ flat_map (bad_entry judge singles kind) suspects → AreBad judge kind list
+bad_from judge singles choices kind suspects list l told chosen suspected made = record {
   within = λ b i. let w = was b i in subst (λ z. z < length judge.kinds.items) (sym (ap (λ z. z.kind) (entry b i).1)) (below w.0 w.1);
   single = λ b i. let w = was b i in
       subst (λ z. is_yes (alone_in judge z) ≡ true) (sym (ap (λ z. z.kind) (entry b i).1)) (ap is_yes (sym (single_at judge singles w.0 (below w.0 w.1) told)) ∙ (entry b i).0);
@@ -79,8 +79,8 @@ bad_from judge singles choices kind suspects list so l told chosen suspected mad
         refl,
       )
     ]
-    | inr j ↦ inr (joined_yes judge.pool.now judge.book.now judge.budget (listed_for judge.kinds.items kind) (listed_for judge.kinds.items k) (listed_for choices.of.items kind) (listed_for choices.of.items k) so.sound
-        (pair_fits (length judge.book.now.rows) judge.kinds.items kind k l m so.fit) (chosen.chosen.each kind l j.first.0 j.first.1) (chosen.chosen.each k m j.second.0 j.second.1) j.peace)
+    | inr j ↦ inr (joined_yes judge.kernel.pool.now judge.kernel.book.now judge.budget (listed_for judge.kinds.items kind) (listed_for judge.kinds.items k) (listed_for choices.of.items kind) (listed_for choices.of.items k) judge.kernel.sound
+        (pair_fits (length judge.kernel.book.now.rows) judge.kinds.items kind k l m judge.fit) (chosen.chosen.each kind l j.first.0 j.first.1) (chosen.chosen.each k m j.second.0 j.second.1) j.peace)
   ];
 }
   where

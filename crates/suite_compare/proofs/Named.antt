@@ -1,12 +1,12 @@
 -- The sides of a comparison: the names of the old one, its judge, and what is told of a part of the names.
 use Rattle.std.{proofs.Common.{◌≡◌, ℕ, ◌<◌, Bool, true, List, [], ◌∷◌, length, get_or, map, refl, ◌∙◌, ap, subst, sym, ap₂}, specs.Str.{bytes_eq}, proofs.lemmas.Slice.Eq.{bytes_eq-Decides}, proofs.lemmas.List.{get_or-map, length-map}}
 use Rattle.clause_pool.proofs.Order.{ordered_parts}
-use Rattle.row_book.{specs.Needs.{AreNeeds, NeedsFit}, specs.Book.{listed_for, Sound}, specs.Repository.{Repository}, specs.Rounds.{kernel}}
+use Rattle.row_book.{specs.Book.{listed_for}, specs.Repository.{Repository}, specs.Rounds.{kernel}}
 use Rattle.listed.{specs.Lists.{In}, proofs.Lists.{any_cases, any_from, In_map_cases, In_place}}
 use Rattle.relation_fields.{specs.declared.packages.Home.{Home}, specs.declared.packages.PackageFacts.{PackageFacts}}
 use Rattle.repo_model.{specs.Goals.{any_version, names_in, packages_named}, specs.Repository.{suite_repository}, specs.Stanzas.{no_stanza}, proofs.Chosen.{named_is, number_from}}
-use Rattle.suite_compare.{specs.Asking.{image_of, tree_of, verdict_of}, specs.Names.{stands_in}, specs.Comparing.{named_verdict, AreVerdicts, IsSide, IsSideBy}, specs.Kinds.{kernel_in, AreKinds, IsJudge, alone_in, together_in}, specs.declared.sides.Side.{Side}, specs.declared.verdicts.Judge.{Judge}}
-use Rattle.clause_solver.{specs.Outcomes.{IsBudget}, specs.Solvers.{IsReady}, specs.declared.outcomes.Verdict.{Verdict}}
+use Rattle.suite_compare.{specs.Asking.{image_of, tree_of, verdict_of}, specs.Names.{stands_in}, specs.Comparing.{IsSide, IsSideBy}, specs.Sided.{named_verdict, AreVerdicts}, specs.Kinds.{kernel_in, AreKinds, alone_in, together_in}, specs.declared.new_side.NewSide.{NewSide}, specs.declared.side.Side.{Side}}
+use Rattle.clause_solver.{specs.declared.outcomes.Verdict.{Verdict}}
 
 -- a package that bears the name
 pub bearer_of : (stanzas : List PackageFacts) (name : List ℕ) → stands_in stanzas name ≡ true → (n : ℕ) × In n (packages_named stanzas (any_version name))
@@ -21,17 +21,7 @@ own_names packages name i =
     let w : (x : PackageFacts) × In x packages × (name ≡ x.name) = In_map_cases (λ facts. facts.name) packages name (ordered_parts (map (λ facts. facts.name) packages) name i) in
     any_from (λ facts. bytes_eq name facts.name) packages w.0 w.1 (ap (λ z. bytes_eq z w.0.name) w.2 ∙ (bytes_eq-Decides w.0.name w.0.name).1 refl)
 
--- a judge of the kinds of lists that are needs of its book
-pub judge_of : (judge : Judge) (lists : List (List ℕ)) (of : List ℕ) → AreKinds lists judge.kinds.items of → Sound judge.pool.now judge.book.now → IsReady (kernel_in judge) judge.solver
-    → AreNeeds lists → NeedsFit (length judge.book.now.rows) lists → IsBudget judge.budget → IsJudge judge
-judge_of judge lists of kinds sound ready needs fit allowed = record {
-  sound = sound;
-  ready = ready;
-  needs = λ c i. needs c (kinds.only c i);
-  fit = λ c i. fit c (kinds.only c i);
-  allowed = allowed;
-}
-
+-- a side of the classes of names has the verdicts on them
 pub verdicts_are : (limit : ℕ) (hold : Bool) (home : Home) (stanzas : List PackageFacts) (budget : ℕ) (K : Repository) (names lists : List (List ℕ)) (side : Side) → K ≡ kernel limit hold (suite_repository home stanzas)
     → lists ≡ map (λ name. image_of limit hold home stanzas (any_version name)) names → IsSideBy K budget lists side → AreVerdicts side side.of.items names (named_verdict limit hold home stanzas budget)
 verdicts_are limit hold home stanzas budget K names lists side same made so = record {
@@ -57,14 +47,16 @@ verdicts_are limit hold home stanzas budget K names lists side same made so = re
 abbrev pub AreAmong : List (List ℕ) → List ℕ → List (List ℕ) → List ℕ → Type 0
 AreAmong names of made kinds = (j : ℕ) → j < length made → (i : ℕ) × (i < length names) × (listed_for made j ≡ listed_for names i) × (get_or kinds j 0 ≡ get_or of i 0)
 
--- a side of all names is one of a part of them
-pub part_side : (names made : List (List ℕ)) (of kinds : List ℕ) (side : Side) → AreAmong names of made kinds → length kinds ≡ length made → IsSide (length names) side of → IsSide (length made) side kinds
-part_side names made of kinds side each long so = record {
-  judge = so.judge;
-  long = long;
-  within = λ j l. let w = each j l in subst (λ z. z < length side.judge.kinds.items) (sym w.3) (so.within w.0 w.1);
-  told = so.told;
-}
+-- and so a kind of the side
+pub part_within : (names made : List (List ℕ)) (kinds : List ℕ) (side : Side) → AreAmong names side.of.items made kinds → length side.of.items ≡ length names → (j : ℕ) → j < length made → get_or kinds j 0 < length side.judge.kinds.items
+part_within names made kinds side each long j l = let w = each j l in subst (λ z. z < length side.judge.kinds.items) (sym w.3) (side.within w.0 (subst (λ n. w.0 < n) (sym long) w.1))
+
+-- both sides are sides of the names of both
+pub both_old : (made : NewSide) → IsSide (length made.part.names.items) made.old.now made.part.of.items
+both_old made = record { long = made.old_long; within = made.old_within; told = made.old.now.told }
+
+pub both_new : (made : NewSide) → IsSide (length made.part.names.items) made.side made.side.of.items
+both_new made = record { long = made.long; within = λ i l. made.side.within i (subst (λ n. i < n) (sym made.long) l); told = made.side.told }
 
 pub part_verdicts : (names made : List (List ℕ)) (of kinds : List ℕ) (side : Side) (v : List (List ℕ) → Verdict) → AreAmong names of made kinds → AreVerdicts side of names v → AreVerdicts side kinds made v
 part_verdicts names made of kinds side v each so = record {

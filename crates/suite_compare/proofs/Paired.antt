@@ -4,7 +4,7 @@ use Rattle.listed.{proofs.Lists.{In_flat_cases, In_flat, In_none, In_has, has_In
 use Rattle.row_book.specs.Book.{listed_for}
 use Rattle.repo_model.proofs.Elements.{range_ascending, range_cases, range_from}
 use Rattle.clause_solver.{specs.declared.outcomes.Verdict.{Verdict}, specs.declared.outcomes.Verdict.TheVariants.{Yes, No, Spent}}
-use Rattle.suite_compare.{specs.Bad.{AreBad, AreAllBad}, specs.Kinds.{alone_in, together_in, AreJoined}, specs.Partners.{beside, beside_all, is_open, new_kind, old_kind, ArePartners, IsJointTable}, specs.Report.{finding, is_yes, pair_line, with_later}, specs.Telling.{found_beside, partners_at, told_after, told_pair}, specs.declared.gather.JointTable.{JointTable}, specs.declared.gather.Partners.{Partners}, specs.declared.report.Finding.{Finding}, specs.declared.report.Finding.TheVariants.{Broken, Open}, specs.declared.verdicts.Bad.{Bad}, specs.declared.verdicts.Judge.{Judge}, specs.Comparing.{told_pairs, goes_alone, AreVerdicts, IsSide, IsTable}, specs.declared.report.ReportLine.{ReportLine}, specs.declared.sides.Side.{Side}}
+use Rattle.suite_compare.{specs.Bad.{AreBad, AreAllBad}, specs.Kinds.{alone_in, together_in, AreJoined}, specs.Partners.{beside, beside_all, is_open, new_kind, old_kind, ArePartners, IsJointTable}, specs.Report.{finding, is_yes, pair_line, with_later}, specs.Telling.{found_beside, partners_at, told_after, told_pair}, specs.declared.gather.JointTable.{JointTable}, specs.declared.gather.Partners.{Partners}, specs.declared.report.Finding.{Finding}, specs.declared.report.Finding.TheVariants.{Broken, Open}, specs.declared.verdicts.Bad.{Bad}, specs.declared.judge.Judge.{Judge}, specs.Comparing.{told_pairs, goes_alone, IsSide, IsTable}, specs.Sided.{AreVerdicts}, specs.declared.report.ReportLine.{ReportLine}, specs.declared.side.Side.{Side}}
 use Rattle.clause_pool.proofs.Lists.{In_place}
 
 finding_yes : (v : Verdict) → finding v Yes ≡ None

@@ -4,7 +4,7 @@ use Rattle.listed.{proofs.Lists.{in_contains, has_In, contains_in, find_none, fi
 use Rattle.row_book.{specs.Book.{listed_for}, specs.Needs.{NeedsFit}, specs.Repository.{Repository}}
 use Rattle.search_terms.{specs.declared.literals.Literal.{Literal}, specs.Closure.{literal, negation, is_same, Clashes, InClosure, IsClosedUnder, IsUnitClosed, IsClosure}, specs.Form.{conflict_sentence, form, goal_sentence, repository_form}, specs.Tree.Tree.{failed_leaf, found_leaf, split}, proofs.Certificates.{same_refl}, proofs.Forms.{conflict_in, goal_in}, proofs.Found.{one_tree}, specs.Tree.{is_open_need, Tree, IsTree}}
 use Rattle.clause_solver.{specs.declared.outcomes.Verdict.TheVariants.{No, Yes}, specs.declared.outcomes.Verdict.{Verdict}, proofs.Calm.{closure_closed}, proofs.Preparing.{clash_part}, proofs.Running.{closed_part}}
-use Rattle.suite_compare.{specs.Asking.{tree_of, verdict_of}, specs.Kinds.{kernel_in, together_in, AreRivals, IsJudge, alone_in, IsOneClass}, specs.declared.verdicts.Judge.{Judge}, proofs.Judged.{pair_fits, tree_is}, specs.Bad.{entered_verdict, AreAllBadTo}, specs.Report.{is_yes}, specs.declared.verdicts.Bad.{Bad}}
+use Rattle.suite_compare.{specs.Asking.{tree_of, verdict_of}, specs.Kinds.{kernel_in, together_in, AreRivals, alone_in, IsOneClass}, specs.declared.judge.Judge.{Judge}, proofs.Judged.{pair_fits, tree_is}, specs.Bad.{entered_verdict, AreAllBadTo}, specs.Report.{is_yes}, specs.declared.verdicts.Bad.{Bad}}
 
 -- Two classes that conflict do not go together, and one failed leaf tells it.
 -- the class of a goal of one class is true in each closed set, and so at the root
@@ -31,15 +31,15 @@ rivals_clash R p q i =
     )
 
 -- and two kinds are judged so
-pub rivals_told : (judge : Judge) (first second : ℕ) → IsJudge judge → first < length judge.kinds.items → second < length judge.kinds.items → AreRivals judge.book.now.conflicts (listed_for judge.kinds.items first) (listed_for judge.kinds.items second)
+pub rivals_told : (judge : Judge) (first second : ℕ) → first < length judge.kinds.items → second < length judge.kinds.items → AreRivals judge.kernel.book.now.conflicts (listed_for judge.kinds.items first) (listed_for judge.kinds.items second)
     → No ≡ together_in judge first second
 rivals_told judge first second so l m rivals =
     let R : Repository = kernel_in judge in
     let goals : List (List ℕ) = (rivals.one ∷ []) ∷ ((rivals.other ∷ []) ∷ []) in
     let same : listed_for judge.kinds.items first ∷ (listed_for judge.kinds.items second ∷ []) ≡ goals = ap₂ (λ a b. a ∷ (b ∷ [])) rivals.first_is rivals.second_is in
-    let fit : NeedsFit (length judge.book.now.rows) goals = subst (NeedsFit (length judge.book.now.rows)) same (pair_fits (length judge.book.now.rows) judge.kinds.items first second l m so.fit) in
-    let clash : Clashes (form R goals) [] = rivals_clash R rivals.one rivals.other (has_In (listed_for judge.book.now.conflicts rivals.one) rivals.other rivals.against) in
-    let leaf : tree_of R goals ≡ failed_leaf = one_tree (length R.clauses) (form R goals) [] failed_leaf (tree_of R goals) clash (tree_is judge.pool.now judge.book.now goals so.sound fit) in
+    let fit : NeedsFit (length judge.kernel.book.now.rows) goals = subst (NeedsFit (length judge.kernel.book.now.rows)) same (pair_fits (length judge.kernel.book.now.rows) judge.kinds.items first second l m judge.fit) in
+    let clash : Clashes (form R goals) [] = rivals_clash R rivals.one rivals.other (has_In (listed_for judge.kernel.book.now.conflicts rivals.one) rivals.other rivals.against) in
+    let leaf : tree_of R goals ≡ failed_leaf = one_tree (length R.clauses) (form R goals) [] failed_leaf (tree_of R goals) clash (tree_is judge.kernel.pool.now judge.kernel.book.now goals judge.kernel.sound fit) in
     sym (ap (λ g. verdict_of judge.budget (tree_of R g)) same ∙ ap (verdict_of judge.budget) leaf ∙ rw (le-ltb judge.budget 1 (omega (arith, so.allowed.0))) refl)
 
 -- Two goals of which one is a single class have one tree in both orders: that goal is met at the root, so it is never the
@@ -94,16 +94,16 @@ tree_swap n a b rest met given (split d left right) is = (
 )
 
 -- so the verdict on two kinds of which one is a single class is that in the other order
-single_swap : (judge : Judge) (first second : ℕ) → IsJudge judge → first < length judge.kinds.items → second < length judge.kinds.items → IsOneClass (listed_for judge.kinds.items first) → together_in judge first second ≡ together_in judge second first
+single_swap : (judge : Judge) (first second : ℕ) → first < length judge.kinds.items → second < length judge.kinds.items → IsOneClass (listed_for judge.kinds.items first) → together_in judge first second ≡ together_in judge second first
 single_swap judge first second so l m one =
     let R : Repository = kernel_in judge in
     let A : List ℕ = listed_for judge.kinds.items first in
     let B : List ℕ = listed_for judge.kinds.items second in
     let met : (more : List (List Literal)) (set : Literal → Bool) → IsUnitClosed (goal_sentence A ∷ more) set → is_open_need set (goal_sentence A) ≡ false = rw one.1 (one_is_met one.0) in
     let swapped : IsTree (length R.clauses) (form R (B ∷ (A ∷ []))) [] (tree_of R (A ∷ (B ∷ []))) = tree_swap (length R.clauses) (goal_sentence A) (goal_sentence B) (repository_form R) met [] (tree_of R (A ∷ (B ∷ [])))
-    (tree_is judge.pool.now judge.book.now (A ∷ (B ∷ [])) so.sound (pair_fits (length judge.book.now.rows) judge.kinds.items first second l m so.fit)) in
+    (tree_is judge.kernel.pool.now judge.kernel.book.now (A ∷ (B ∷ [])) judge.kernel.sound (pair_fits (length judge.kernel.book.now.rows) judge.kinds.items first second l m judge.fit)) in
     ap (verdict_of judge.budget) (one_tree (length R.clauses) (form R (B ∷ (A ∷ []))) [] (tree_of R (B ∷ (A ∷ []))) (tree_of R (A ∷ (B ∷ [])))
-    (tree_is judge.pool.now judge.book.now (B ∷ (A ∷ [])) so.sound (pair_fits (length judge.book.now.rows) judge.kinds.items second first m l so.fit)) swapped)
+    (tree_is judge.kernel.pool.now judge.kernel.book.now (B ∷ (A ∷ [])) judge.kernel.sound (pair_fits (length judge.kernel.book.now.rows) judge.kinds.items second first m l judge.fit)) swapped)
 
 pub one_class : (goal : List ℕ) → length goal ≡ 1 → IsOneClass goal
 one_class [] e = absurd (omega (arith, e))
@@ -111,7 +111,7 @@ one_class (c ∷ []) e = (c, refl)
 one_class (c ∷ (d ∷ rest)) e = absurd (omega (arith, e))
 
 -- the list of an earlier kind tells the verdict
-pub entered_told : (judge : Judge) (lists : List (List Bad)) (first second : ℕ) (v : Verdict) → IsJudge judge → first < length judge.kinds.items → second < length judge.kinds.items
+pub entered_told : (judge : Judge) (lists : List (List Bad)) (first second : ℕ) (v : Verdict) → first < length judge.kinds.items → second < length judge.kinds.items
     → AreAllBadTo judge lists (length lists) → second < length lists → is_yes (alone_in judge first) ≡ true → is_yes (alone_in judge second) ≡ true
     → IsOneClass (listed_for judge.kinds.items first) ⊎ IsOneClass (listed_for judge.kinds.items second) → v ≡ entered_verdict (slice_index_or lists second []) first → v ≡ together_in judge first second
 entered_told judge lists first second v so l m earlier lt first_yes second_yes single entered = entered ∙ told (find (λ b. eqb b.kind first) list) refl ∙ swapped single

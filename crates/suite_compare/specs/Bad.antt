@@ -3,7 +3,7 @@ use Rattle.std.specs.{Prelude.{◌≡◌, ℕ, ◌<◌, ◌==◌, ◌⊎◌, Boo
 use Rattle.std.specs.Option.{option_map_or}
 use Rattle.listed.specs.Lists.{In}
 use Rattle.clause_solver.specs.{declared.outcomes.Verdict.{Verdict}, declared.outcomes.Verdict.TheVariants.{Yes, Spent}}
-use Rattle.suite_compare.specs.{declared.verdicts.Bad.{Bad}, declared.verdicts.Judge.{Judge}, Groups.{AreEach}, Report.{is_yes}}
+use Rattle.suite_compare.specs.{declared.verdicts.Bad.{Bad}, declared.judge.Judge.{Judge}, Groups.{AreEach}, Report.{is_yes}}
 use Rattle.suite_compare.specs.Kinds.{alone, alone_in, kernel_in, together_in}
 
 -- the verdict on each kind by itself

@@ -1,18 +1,17 @@
 -- The packages that bear names, and their classes by the table of a kernel.
 use Rattle.std.specs.Prelude.{ℕ, ◌<◌, ◌==◌, ◌↔◌, Bool, not, List, length, map, filter, slice_index_or}
 use Rattle.listed.specs.Lists.{Ascending, In}
-use Rattle.row_book.specs.{Book.{listed_for, Sound}, Numbers.{numbers}}
+use Rattle.row_book.specs.{Book.{listed_for}, Numbers.{numbers}, declared.lent_book.LentBook.{LentBook}}
 use Rattle.relation_fields.specs.{declared.packages.Home.{Home}, declared.packages.PackageFacts.{PackageFacts}}
 use Rattle.repo_model.specs.Goals.{any_version, packages_named}
-use Rattle.suite_compare.specs.{Asking.{image_of}, declared.lent.LentKernel.{LentKernel}}
+use Rattle.suite_compare.specs.Asking.{image_of}
 
 -- for each name the packages that bear it, of any version
 abbrev pub bearers_of : List PackageFacts → List (List ℕ) → List (List ℕ)
 bearers_of packages names = map (λ name. packages_named packages (any_version name)) names
 
--- the book is sound over the pool, and these are lists of its packages, each ascending
-pub record FitsKernel (lent : LentKernel) (classes : List (List ℕ)) : Type 0 where
-  pub sound : Sound lent.pool.now lent.book.now
+-- these are lists of the book's packages, each ascending
+pub record FitsKernel (lent : LentBook) (classes : List (List ℕ)) : Type 0 where
   pub ascending : (image : List ℕ) → In image classes → Ascending image
   pub within : (image : List ℕ) → In image classes → (k : ℕ) → In k image → k < length lent.book.now.rows
 

@@ -1,9 +1,9 @@
 -- Kinds: names of a kind have the same classes, and so the same verdicts.
 use Rattle.std.specs.Prelude.{◌≡◌, ℕ, ◌<◌, true, List, [], ◌∷◌, length, map, slice_index_or}
 use Rattle.listed.specs.Lists.{In, has}
-use Rattle.row_book.specs.{Book.{Sound, listed_for, repository_of}, Needs.{AreNeeds, NeedsFit}, Repository.{Repository}}
-use Rattle.suite_compare.specs.{Asking.{tree_of, verdict_of}, Groups.{AreEach}, declared.verdicts.Judge.{Judge}}
-use Rattle.clause_solver.specs.{Outcomes.{IsBudget}, Solvers.{IsReady}, declared.outcomes.Verdict.{Verdict}}
+use Rattle.row_book.specs.{Book.{listed_for}, Lent.{repository_in}, Repository.{Repository}}
+use Rattle.suite_compare.specs.{Asking.{tree_of, verdict_of}, Groups.{AreEach}, declared.judge.Judge.{Judge}}
+use Rattle.clause_solver.specs.declared.outcomes.Verdict.{Verdict}
 
 -- the verdict of a search in a kernel, for goals as lists of classes
 abbrev pub kernel_verdict : Repository → ℕ → List (List ℕ) → Verdict
@@ -56,7 +56,7 @@ joint_key old_of new_of i = slice_index_or old_of i 0 ∷ (slice_index_or new_of
 
 -- the kernel that a judge is asked of
 abbrev pub kernel_in : Judge → Repository
-kernel_in judge = repository_of judge.pool.now judge.book.now
+kernel_in judge = repository_in judge.kernel
 
 -- the verdict on one of its kinds by itself, and on two together
 abbrev pub alone_in : Judge → ℕ → Verdict
@@ -64,11 +64,3 @@ alone_in judge k = alone (kernel_in judge) judge.budget (listed_for judge.kinds.
 
 abbrev pub together_in : Judge → ℕ → ℕ → Verdict
 together_in judge first second = together (kernel_in judge) judge.budget (listed_for judge.kinds.items first) (listed_for judge.kinds.items second)
-
--- what a search over kinds asks for: a sound book, a solver of it, kinds that are needs of its classes, and a budget
-pub record IsJudge (judge : Judge) : Type 0 where
-  pub sound : Sound judge.pool.now judge.book.now
-  pub ready : IsReady (kernel_in judge) judge.solver
-  pub needs : AreNeeds judge.kinds.items
-  pub fit : NeedsFit (length judge.book.now.rows) judge.kinds.items
-  pub allowed : IsBudget judge.budget

@@ -1,7 +1,7 @@
 -- What is known of pairs of kinds, and of which searches it tells.
 use Rattle.std.specs.Prelude.{◌≡◌}
 use Rattle.row_book.specs.Book.{Sound, repository_of}
-use Rattle.suite_compare.specs.{Bad.{AreAllBad}, Kinds.{kernel_in}, declared.known.KnownPairs.{KnownPairs}, declared.verdicts.Judge.{Judge}}
+use Rattle.suite_compare.specs.{Bad.{AreAllBad}, Kinds.{kernel_in}, declared.known.KnownPairs.{KnownPairs}, declared.judge.Judge.{Judge}}
 
 -- the judge is asked of the same kernel and of the same kinds in the same order, within the same budget
 pub record IsAskedAlike (known : KnownPairs) (judge : Judge) : Type 0 where

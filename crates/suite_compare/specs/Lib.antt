@@ -12,6 +12,8 @@ pub mod FirstChoices
 pub mod Choices
 pub mod Suspects
 pub mod Bad
+pub mod Props
+pub mod Sided
 pub mod Partners
 pub mod Telling
 pub mod Bearers

@@ -6,7 +6,7 @@ use Rattle.listed.specs.Lists.{In, Ascending}
 use Rattle.row_book.specs.Book.{listed_for}
 use Rattle.clause_solver.specs.declared.outcomes.Verdict.{Verdict}
 use Rattle.suite_compare.specs.{declared.gather.JointTable.{JointTable}, declared.gather.Partners.{Partners}, declared.report.Finding.{Finding}}
-use Rattle.suite_compare.specs.{declared.report.Finding.TheVariants.{Broken, Open}, declared.verdicts.Bad.{Bad}, declared.verdicts.Judge.{Judge}}
+use Rattle.suite_compare.specs.{declared.report.Finding.TheVariants.{Broken, Open}, declared.verdicts.Bad.{Bad}, declared.judge.Judge.{Judge}}
 use Rattle.suite_compare.specs.{Groups.{ArePlaces}, Kinds.{together_in}, Report.{finding}}
 
 -- the kind of a pair in the old suite, and in the new one

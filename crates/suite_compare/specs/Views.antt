@@ -1,14 +1,12 @@
 -- A view of a suite: the repository of its packages as a book over a pool, and the kernel of that at a clause limit, with hold or
 -- without, with its classes, its held classes and its steps.
-use Rattle.std.specs.Prelude.{◌≡◌, ◌⊎◌, ℕ, Bool, List, [], ◌∷◌, map, refl}
-use Rattle.std.specs.Coded.{Coded, Coded-set, code_by, coded×, coded⊎, coded_list, coded_ℕ, coded_bool, ×_prop, Unit-prop, le_prop}
-use Rattle.std.proofs.{Common.{ap, inl, inr}, Math.Nat.{ne_of_lt}}
-use Rattle.clause_pool.specs.{Interned.{Interned, IsPool}, Lists.{Before, InOrder}}
-use Rattle.row_book.specs.{Book.{repository_of, AreConflicts, Sound}, Flattening.{packages}, Pruning.{IdleClause}, Repository.{Repository}}
-use Rattle.row_book.specs.Rounds.{RoundStep, FlatStep, MergeStep, IdleStep, kernel, kernel_class, kernel_held, kernel_steps}
+use Rattle.std.specs.{Prelude.{◌≡◌, ◌⊎◌, ℕ, Bool, List, [], ◌∷◌, map, refl}, Coded.{Coded, Coded-set, code_by, coded×, coded⊎, coded_list, coded_ℕ, Unit-prop}}
+use Rattle.std.proofs.Common.{inl, inr}
+use Rattle.clause_pool.specs.Interned.{Interned}
+use Rattle.row_book.specs.{Book.{repository_of, Sound}, Flattening.{packages}, Props.{repository_code, Same-prop, Sound-prop}, Pruning.{IdleClause}}
+use Rattle.row_book.specs.{Repository.{Repository}, Rounds.{RoundStep, FlatStep, MergeStep, IdleStep, kernel, kernel_class, kernel_held, kernel_steps}}
 use Rattle.row_book.specs.{Trail.{SoundStep, SoundSteps, trail_meaning}, declared.book.Book.{Book}, declared.trail.Step.{Step}}
 use Rattle.row_book.specs.declared.trail.Step.TheVariants.{Flat, Idle, Merge}
-use Rattle.listed.specs.Lists.{Ascending, In}
 use Rattle.kernel_rounds.specs.declared.extraction.Kernel.{Kernel}
 use Rattle.relation_fields.specs.{declared.packages.Home.{Home}, declared.packages.PackageFacts.{PackageFacts}}
 use Rattle.repo_model.specs.Repository.{suite_repository}
@@ -33,11 +31,6 @@ pub record IsViewOf (pool : Interned) (home : Home) (stanzas : List PackageFacts
   pub kernel_is : IsKernelOf pool made limit (suite_repository home stanzas)
 
 -- These facts have one proof at most, so that a view may keep them.
-abbrev repository_code : Coded Repository
-repository_code =
-    code_by (List (List (List ℕ)) × List (List ℕ)) (coded× (coded_list (coded_list (coded_list coded_ℕ))) (coded_list (coded_list coded_ℕ)))
-    (λ R. (R.clauses, R.conflicts)) (λ p. record { clauses = p.0; conflicts = p.1 }) (λ _. refl)
-
 abbrev idle_code : Coded IdleClause
 idle_code =
     code_by (ℕ × (List ℕ × ℕ)) (coded× coded_ℕ (coded× (coded_list coded_ℕ) coded_ℕ))
@@ -50,52 +43,13 @@ step_code =
     (elim [ inl R ↦ FlatStep R | inr rest ↦ elim rest [ inl c ↦ MergeStep c | inr s ↦ IdleStep s ] ])
     (elim [ FlatStep R ↦ refl | MergeStep c ↦ refl | IdleStep s ↦ refl ])
 
-Ascending-prop : (xs : List ℕ) → IsProp (Ascending xs)
-Ascending-prop [] = Unit-prop
-Ascending-prop (x ∷ xs) = ×_prop (hlevel le_prop) (Ascending-prop xs)
-
-bool-set : IsSet Bool
-bool-set = Coded-set coded_bool
-
-number-set : IsSet ℕ
-number-set = Coded-set coded_ℕ
-
-⊥-prop : IsProp ⊥
-⊥-prop h i = absurd h
-
--- of two facts that exclude each other one or the other
-either-prop : {A B : Type 0} → IsProp A → IsProp B → (A → B → ⊥) → IsProp (A ⊎ B)
-either-prop a b apart (inl h) (inl i) = ap inl (a h i)
-either-prop a b apart (inl h) (inr i) = absurd (apart h i)
-either-prop a b apart (inr h) (inl i) = absurd (apart i h)
-either-prop a b apart (inr h) (inr i) = ap inr (b h i)
-
-Before-prop : (xs ys : List ℕ) → IsProp (Before xs ys)
-Before-prop [] [] = ⊥-prop
-Before-prop [] (y ∷ ys) = Unit-prop
-Before-prop (x ∷ xs) [] = ⊥-prop
-Before-prop (x ∷ xs) (y ∷ ys) = either-prop (hlevel le_prop) (×_prop (number-set x y) (Before-prop xs ys)) (λ l e. ne_of_lt l e.0)
-
-InOrder-prop : (cs : List (List ℕ)) → IsProp (InOrder cs)
-InOrder-prop [] = Unit-prop
-InOrder-prop (c ∷ cs) = let first : IsProp ((d : List ℕ) → In d cs → Before c d) = hlevel Before-prop in ×_prop first (InOrder-prop cs)
-
-pool-prop : (pool : Interned) → IsProp (IsPool pool)
-pool-prop pool = hlevel (number-set, Ascending-prop, InOrder-prop, le_prop)
-
-conflicts-prop : (table : List (List ℕ)) → IsProp (AreConflicts table)
-conflicts-prop table = hlevel (Ascending-prop, bool-set)
-
-Sound-prop : (pool : Interned) (book : Book) → IsProp (Sound pool book)
-Sound-prop pool book = hlevel (pool-prop, conflicts-prop, le_prop)
-
 SoundStep-prop : (pool : Interned) (step : Step) → IsProp (SoundStep pool step)
 SoundStep-prop pool (Flat before) = Sound-prop pool before
 SoundStep-prop pool (Idle «package» clause added) = Unit-prop
 SoundStep-prop pool (Merge class_of) = Unit-prop
 
 book-prop : (pool : Interned) (book : Book) (R : Repository) → IsProp (IsBookOf pool book R)
-book-prop pool book R = let e : IsProp (repository_of pool book ≡ R) = Coded-set repository_code (repository_of pool book) R in hlevel (e, Sound-prop)
+book-prop pool book R = let e : IsProp (repository_of pool book ≡ R) = Same-prop (repository_of pool book) R in hlevel (e, Sound-prop)
 
 kernel-prop : (pool : Interned) (made : Kernel) (limit : ℕ) (R : Repository) → IsProp (IsKernelOf pool made limit R)
 kernel-prop pool made limit R =

@@ -4,25 +4,24 @@
 ghost use Rattle.std.specs.{Prelude.{◌≡◌, ◌<◌, ◌∷◌, [], ℕ, List, true, IfOk, OnOk, length}, List.{list_any}};
 ghost use Rattle.clause_pool.specs.Interned.{clauses_at, OfPool};
 ghost use Rattle.listed.specs.Lists.{In, has};
-ghost use Rattle.row_book.specs.{Book.{listed_for, repository_of, Sound}, Repository.{clauses_of}};
+ghost use Rattle.row_book.specs.{Book.{listed_for}, Lent.{repository_in}, Repository.{clauses_of}};
 ghost use Rattle.suite_compare.specs.{FirstChoices.{IsFirstChoice}, Choices.{has_first_member, AreBelow, HaveFirsts, IsChosen, IsServed}};
 
 use crate::class_set::ClassSet;
 use clause_pool::{ClauseId, NumList, Pool};
 use listed::Listed;
-use row_book::Book;
+use row_book::{Book, LentBook};
 use std::alloc::{AllocError, Global};
 
 /// The clauses of a class.
-fn row_of<'a>(pool: &'a Pool, book: &Book, class: u32) -> &'a [ClauseId]
-    requires sound { Sound pool.now book.now }
-    requires class { class < length book.now.rows }
-    ensures of_pool { OfPool pool.now result.now }
-    ensures clauses { clauses_at pool.now result.now ≡ clauses_of (repository_of pool.now book.now) class }
-    ensures numbers { (c : List ℕ) → In c (clauses_at pool.now result.now) → AreBelow (length book.now.rows) c }
+fn row_of<'a>(kernel: &LentBook<'a>, class: u32) -> &'a [ClauseId]
+    requires { class < length kernel.now.book.now.rows }
+    ensures of_pool { OfPool kernel.now.pool.now result.now }
+    ensures clauses { clauses_at kernel.now.pool.now result.now ≡ clauses_of (repository_in kernel.now) class }
+    ensures numbers { (c : List ℕ) → In c (clauses_at kernel.now.pool.now result.now) → AreBelow (length kernel.now.book.now.rows) c }
 {
-    let id = book.row(class);
-    pool.row(id)
+    let id = kernel.book.row(class);
+    kernel.pool.row(id)
 }
 
 /// Puts the first member of a clause behind the others, where it has one.
@@ -58,18 +57,17 @@ fn put_firsts(
 }
 
 /// Puts the first member of each clause of what is chosen behind the others, until none is missing, or these are too many.
-fn follow(pool: &Pool, book: &Book, most: usize, chosen: &mut ClassSet) -> Result<(), AllocError>
-    requires sound { Sound pool.now book.now }
-    requires size { chosen.old.0 ≡ length book.now.rows }
-    ensures { OnOk result (chosen.new.0 ≡ length book.now.rows) }
+fn follow(kernel: &LentBook, most: usize, chosen: &mut ClassSet) -> Result<(), AllocError>
+    requires { chosen.old.0 ≡ length kernel.now.book.now.rows }
+    ensures { OnOk result (chosen.new.0 ≡ length kernel.now.book.now.rows) }
 {
     for place in 0..most {
         let members = chosen.as_slice();
         if place >= members.len() {
             return Ok(());
         }
-        let row = row_of(pool, book, members[place]);
-        put_firsts(pool, row, most, chosen)?;
+        let row = row_of(kernel, members[place]);
+        put_firsts(kernel.pool, row, most, chosen)?;
     }
     Ok(())
 }
@@ -106,25 +104,23 @@ fn conflicts_with_one(book: &Book, class: u32, chosen: &ClassSet) -> bool
 }
 
 /// Whether the set has the first member of each clause of a class, and no class that it conflicts with.
-fn is_served(pool: &Pool, book: &Book, class: u32, chosen: &ClassSet) -> bool
-    requires sound { Sound pool.now book.now }
-    requires class { class < length book.now.rows }
-    ensures { result ≡ true → IsServed (repository_of pool.now book.now) chosen.now.1 class }
+fn is_served(kernel: &LentBook, class: u32, chosen: &ClassSet) -> bool
+    requires { class < length kernel.now.book.now.rows }
+    ensures { result ≡ true → IsServed (repository_in kernel.now) chosen.now.1 class }
 {
-    if conflicts_with_one(book, class, chosen) {
+    if conflicts_with_one(kernel.book, class, chosen) {
         return false;
     }
-    has_firsts(pool, row_of(pool, book, class), chosen)
+    has_firsts(kernel.pool, row_of(kernel, class), chosen)
 }
 
 /// Whether the set is a first choice of a goal.
-fn is_first_choice(pool: &Pool, book: &Book, goal: &[u32], chosen: &ClassSet) -> bool
-    requires sound { Sound pool.now book.now }
-    requires size { chosen.now.0 ≡ length book.now.rows }
-    ensures { result ≡ true → IsFirstChoice (repository_of pool.now book.now) (goal.now ∷ []) (has chosen.now.1) }
+fn is_first_choice(kernel: &LentBook, goal: &[u32], chosen: &ClassSet) -> bool
+    requires { chosen.now.0 ≡ length kernel.now.book.now.rows }
+    ensures { result ≡ true → IsFirstChoice (repository_in kernel.now) (goal.now ∷ []) (has chosen.now.1) }
 {
     for class in chosen.as_slice() {
-        if !is_served(pool, book, *class, chosen) {
+        if !is_served(kernel, *class, chosen) {
             return false;
         }
     }
@@ -135,22 +131,20 @@ fn is_first_choice(pool: &Pool, book: &Book, goal: &[u32], chosen: &ClassSet) ->
 /// these conflict; the empty list where there is none, or none so short. It is made in a set that is emptied first.
 pub(crate) fn first_choice(
     alloc: Global,
-    pool: &Pool,
-    book: &Book,
+    kernel: &LentBook,
     goal: &[u32],
     most: usize,
     chosen: &mut ClassSet,
 ) -> Result<NumList, AllocError>
-    requires sound { Sound pool.now book.now }
-    requires goal { AreBelow (length book.now.rows) goal.now }
-    requires size { chosen.old.0 ≡ length book.now.rows }
-    ensures size { OnOk result (chosen.new.0 ≡ length book.now.rows) }
-    ensures chosen { IfOk result (IsChosen (repository_of pool.now book.now) goal.now) }
+    requires goal { AreBelow (length kernel.now.book.now.rows) goal.now }
+    requires size { chosen.old.0 ≡ length kernel.now.book.now.rows }
+    ensures size { OnOk result (chosen.new.0 ≡ length kernel.now.book.now.rows) }
+    ensures chosen { IfOk result (IsChosen (repository_in kernel.now) goal.now) }
 {
     chosen.clear();
     put_first(goal, chosen)?;
-    follow(pool, book, most, chosen)?;
-    if !is_first_choice(pool, book, goal, chosen) {
+    follow(kernel, most, chosen)?;
+    if !is_first_choice(kernel, goal, chosen) {
         return Ok(Listed::new(alloc));
     }
     let made = Vec::from_slice(alloc, chosen.as_slice())?;

@@ -8,21 +8,23 @@ ghost use Rattle.relation_fields.specs.{declared.packages.Home.{Home}, declared.
 ghost use Rattle.repo_model.specs.Repository.{suite_repository};
 ghost use Rattle.clause_solver.specs.{Outcomes.{IsBudget}, declared.outcomes.Verdict.{Verdict}};
 ghost use Rattle.suite_compare.specs.{Asking.{verdict_in}, declared.verdicts.Bad.{Bad}, Bad.{AreAllBad}, Known.{AreKnownPairs}};
-ghost use Rattle.suite_compare.specs.{Bearers.{bearer_classes, FitsKernel}, Kinds.{IsJudge}, Names.{names_of_both}};
-ghost use Rattle.suite_compare.specs.Comparing.{told_pairs, told_report, told_singles, AreVerdicts, IsOldSide, IsSide, IsTable};
-ghost use Rattle.suite_compare.specs.{Partners.{old_kind, IsJointTable}, Report.{first_told, report}, Lent.{IsLentKernel}};
+ghost use Rattle.suite_compare.specs.{Bearers.{bearer_classes, FitsKernel}, Names.{names_of_both}};
+ghost use Rattle.suite_compare.specs.{Comparing.{told_pairs, told_report, told_singles, AreBothVerdicts, IsTable}, Partners.{old_kind, IsJointTable}};
+ghost use Rattle.suite_compare.specs.{Report.{first_told, report}, Lent.{IsLentKernel}};
 
 use crate::few::FewNumbers;
 use crate::gather::{JointTable, Partners, joint_table, new_kind, old_kind, partners_of};
+use crate::judge::Judge;
 use crate::known::{KnownPairs, pairs_of};
-use crate::lent::LentKernel;
+use crate::new_side::NewSide;
+use crate::old_side::OldSide;
 use crate::places::name_at;
 use crate::report::{LineList, Report, ReportLine, copy_of_first, finding_of};
-use crate::sides::{NewSide, OldSide, Side, new_side_by, new_side_of, verdict_of};
+use crate::sides::{new_side_by, new_side_of, verdict_of};
 use crate::tell::{push_single, tell_pairs};
-use crate::verdicts::{BadList, Judge, bad_lists, bads_at};
+use crate::verdicts::{BadList, bad_lists, bads_at};
 use crate::view::SuiteView;
-use repo_model::LentName;
+use row_book::LentBook;
 use std::alloc::{AllocError, Global};
 
 /// For each joint (a kind in the old suite with one in the new), the names that are broken or open beside its names.
@@ -32,7 +34,6 @@ fn all_partners(
     table: &JointTable,
     bad: &[BadList],
 ) -> Result<Vec<Partners>, AllocError>
-    requires judge { IsJudge old.now }
     requires fits { IsJointTable table.now }
     requires olds { (a : ℕ) → a < length table.now.joints.old.items → old_kind table.now a < length old.now.kinds.items }
     requires count { length table.now.by_new.items ≡ length bad.now }
@@ -49,64 +50,44 @@ fn all_partners(
     Ok(made)
 }
 
-/// The lines of the names by themselves, of which both suites have the kinds.
-fn single_lines(
-    alloc: Global,
-    names: &[LentName],
-    old: &Side,
-    old_of: &[usize],
-    new: &Side,
-) -> Result<LineList, AllocError>
-    requires old { IsSide (length names.now) old.now old_of.now }
-    requires new { IsSide (length names.now) new.now new.now.of.items }
-    ensures { (v w : List (List ℕ) → Verdict) → AreVerdicts old.now old_of.now names.now v → AreVerdicts new.now new.now.of.items names.now w → IfOk result (λ lines. lines ≡ told_singles v w names.now) }
+/// The lines of the names by themselves.
+fn single_lines(alloc: Global, sides: &NewSide) -> Result<LineList, AllocError>
+    ensures { (v w : List (List ℕ) → Verdict) → AreBothVerdicts sides.now v w → IfOk result (λ lines. lines ≡ told_singles v w sides.now.part.names.items) }
 {
+    let part = &sides.part;
     let mut lines = LineList::new(alloc);
-    for place in 0..names.len() {
-        let before = verdict_of(old, old_of, place);
-        let after = verdict_of(new, &new.of, place);
+    for place in 0..part.names.len() {
+        let before = verdict_of(sides.old, &part.of, place);
+        let after = verdict_of(&sides.side, &sides.side.of, place);
         let finding = finding_of(before, after);
-        push_single(alloc, name_at(names, place), finding, &mut lines)?;
+        push_single(alloc, name_at(&part.names, place), finding, &mut lines)?;
     }
     Ok(lines)
 }
 
-/// Puts the lines of the pairs of names, of which both suites have the kinds, behind the others, by the bad kinds of each kind in the new one.
+/// Appends the lines of the pairs of names, by the bad kinds of each kind in the new suite.
 fn put_pair_lines(
     alloc: Global,
-    names: &[LentName],
-    old: &Side,
-    old_of: &[usize],
-    new: &Side,
+    sides: &NewSide,
     bad: &[BadList],
     lines: &mut LineList,
 ) -> Result<(), AllocError>
-    requires old { IsSide (length names.now) old.now old_of.now }
-    requires new { IsSide (length names.now) new.now new.now.of.items }
-    requires bad { AreAllBad new.now.judge bad.now }
-    ensures { (v w : List (List ℕ) → Verdict) → AreVerdicts old.now old_of.now names.now v → AreVerdicts new.now new.now.of.items names.now w → OnOk result (lines.new ≡ lines.old ++ told_pairs v w names.now) }
+    requires { AreAllBad sides.now.side.judge bad.now }
+    ensures { (v w : List (List ℕ) → Verdict) → AreBothVerdicts sides.now v w → OnOk result (lines.new ≡ lines.old ++ told_pairs v w sides.now.part.names.items) }
 {
-    let table = joint_table(alloc, old_of, new)?;
-    let partners = all_partners(alloc, &old.judge, &table, bad)?;
-    tell_pairs(alloc, names, new, &table, &partners, lines)?;
+    let table = joint_table(alloc, sides)?;
+    let partners = all_partners(alloc, &sides.old.judge, &table, bad)?;
+    tell_pairs(alloc, sides, &table, &partners, lines)?;
     Ok(())
 }
 
-/// The lines of a report on names, of which both suites have the kinds.
-fn lines_of(
-    alloc: Global,
-    names: &[LentName],
-    old: &Side,
-    old_of: &[usize],
-    new: &Side,
-) -> Result<LineList, AllocError>
-    requires old { IsSide (length names.now) old.now old_of.now }
-    requires new { IsSide (length names.now) new.now new.now.of.items }
-    ensures { (v w : List (List ℕ) → Verdict) → AreVerdicts old.now old_of.now names.now v → AreVerdicts new.now new.now.of.items names.now w → IfOk result (λ lines. lines ≡ told_report v w names.now) }
+/// The lines of a report on the names of both sides.
+fn lines_of(alloc: Global, sides: &NewSide) -> Result<LineList, AllocError>
+    ensures { (v w : List (List ℕ) → Verdict) → AreBothVerdicts sides.now v w → IfOk result (λ lines. lines ≡ told_report v w sides.now.part.names.items) }
 {
-    let mut lines = single_lines(alloc, names, old, old_of, new)?;
-    let bad = bad_lists(alloc, &new.judge, &new.singles)?;
-    put_pair_lines(alloc, names, old, old_of, new, &bad, &mut lines)?;
+    let mut lines = single_lines(alloc, sides)?;
+    let bad = bad_lists(alloc, &sides.side.judge, &sides.side.singles)?;
+    put_pair_lines(alloc, sides, &bad, &mut lines)?;
     Ok(lines)
 }
 
@@ -117,27 +98,22 @@ struct FirstLines {
     known: Option<KnownPairs>,
 }
 
-/// The lines of a report on names, but none of pairs where a name has a line by itself; by what is known of pairs, where that tells of these.
+/// The lines of a report on the names of both sides, but none of pairs if a name has a line by itself; by what is known of pairs, if that tells of these.
 fn first_lines_of(
     alloc: Global,
-    names: &[LentName],
-    old: &Side,
-    old_of: &[usize],
-    new: &Side,
+    sides: &NewSide,
     known: Option<KnownPairs>,
 ) -> Result<FirstLines, AllocError>
-    requires old { IsSide (length names.now) old.now old_of.now }
-    requires new { IsSide (length names.now) new.now new.now.of.items }
-    requires known { ForSome known AreKnownPairs }
-    ensures lines { (v w : List (List ℕ) → Verdict) → AreVerdicts old.now old_of.now names.now v → AreVerdicts new.now new.now.of.items names.now w → IfOk result (λ made. first_told made.lines ≡ first_told (told_report v w names.now)) }
+    requires { ForSome known AreKnownPairs }
+    ensures lines { (v w : List (List ℕ) → Verdict) → AreBothVerdicts sides.now v w → IfOk result (λ made. first_told made.lines ≡ first_told (told_report v w sides.now.part.names.items)) }
     ensures known { IfOk result (λ made. ForSome made.known AreKnownPairs) }
 {
-    let mut lines = single_lines(alloc, names, old, old_of, new)?;
+    let mut lines = single_lines(alloc, sides)?;
     if !lines.as_slice().is_empty() {
         return Ok(FirstLines { lines, known });
     }
-    let pairs = pairs_of(alloc, &new.judge, &new.singles, known)?;
-    put_pair_lines(alloc, names, old, old_of, new, &pairs.lists, &mut lines)?;
+    let pairs = pairs_of(alloc, &sides.side.judge, &sides.side.singles, known)?;
+    put_pair_lines(alloc, sides, &pairs.lists, &mut lines)?;
     Ok(FirstLines {
         lines,
         known: Some(pairs),
@@ -168,25 +144,22 @@ pub fn compare(
 
 /// What a new suite has broken of an old one. Both views were made at one and the same clause limit, and both with hold or both without.
 fn report_of(alloc: Global, old: &OldSide, new: &SuiteView) -> Result<Report, AllocError>
-    requires side { IsOldSide old.now }
     requires limit { new.now.limit ≡ old.now.view.now.limit }
     requires hold { new.now.kernel.hold ≡ old.now.view.now.kernel.hold }
     ensures { let view = old.now.view.now in IfOk result (λ made. made.lines ≡ report (verdict_in view.limit view.kernel.hold view.suite.home view.suite.packages old.now.budget) (verdict_in view.limit view.kernel.hold new.now.suite.home new.now.suite.packages old.now.budget)
         (names_of_both view.suite.packages new.now.suite.packages)) }
 {
     let after = new_side_of(alloc, old, new)?;
-    let report = report_beside(alloc, &old.side, &after);
+    let report = report_beside(alloc, &after);
     drop(after);
     report
 }
 
 /// What a new side has broken of an old one.
-fn report_beside(alloc: Global, old: &Side, new: &NewSide) -> Result<Report, AllocError>
-    requires old { IsSide (length new.now.part.names.items) old.now new.now.part.of.items }
-    requires new { IsSide (length new.now.part.names.items) new.now.side new.now.side.of.items }
-    ensures { let names = new.now.part.names.items in (v w : List (List ℕ) → Verdict) → AreVerdicts old.now new.now.part.of.items names v → AreVerdicts new.now.side new.now.side.of.items names w → IfOk result (λ made. made.lines ≡ told_report v w names) }
+fn report_beside(alloc: Global, sides: &NewSide) -> Result<Report, AllocError>
+    ensures { (v w : List (List ℕ) → Verdict) → AreBothVerdicts sides.now v w → IfOk result (λ made. made.lines ≡ told_report v w sides.now.part.names.items) }
 {
-    let lines = lines_of(alloc, &new.part.names, old, &new.part.of, &new.side)?;
+    let lines = lines_of(alloc, sides)?;
     Ok(Report { lines })
 }
 
@@ -197,14 +170,13 @@ pub fn first_line(
     old: &OldSide,
     new: &SuiteView,
 ) -> Result<Option<ReportLine>, AllocError>
-    requires side { IsOldSide old.now }
     requires limit { new.now.limit ≡ old.now.view.now.limit }
     requires hold { new.now.kernel.hold ≡ old.now.view.now.kernel.hold }
     ensures { let view = old.now.view.now in IfOk result (λ first. first ≡ first_told (report (verdict_in view.limit view.kernel.hold view.suite.home view.suite.packages old.now.budget) (verdict_in view.limit view.kernel.hold new.now.suite.home new.now.suite.packages old.now.budget)
         (names_of_both view.suite.packages new.now.suite.packages))) }
 {
     let made = new_side_of(alloc, old, new)?;
-    let first = first_beside(alloc, &old.side, &made, None);
+    let first = first_beside(alloc, &made, None);
     drop(made);
     Ok(first?.line)
 }
@@ -225,11 +197,10 @@ pub struct FirstLine {
 pub fn first_line_by(
     alloc: Global,
     old: &OldSide,
-    kernel: &LentKernel,
+    kernel: &LentBook,
     classes: Vec<FewNumbers>,
     known: Option<KnownPairs>,
 ) -> Result<FirstLine, AllocError>
-    requires side { IsOldSide old.now }
     requires fits { FitsKernel kernel.now classes.items }
     requires count { length classes.items ≡ length old.now.names }
     requires known { ForSome known AreKnownPairs }
@@ -239,33 +210,18 @@ pub fn first_line_by(
     ensures known { IfOk result (λ made. ForSome made.known AreKnownPairs) }
 {
     let made = new_side_by(alloc, old, kernel, classes)?;
-    let first = first_beside(alloc, &old.side, &made, known);
+    let first = first_beside(alloc, &made, known);
     drop(made);
     first
 }
 
 /// The first line of what a new side has broken of an old one, or none.
-fn first_beside(
-    alloc: Global,
-    old: &Side,
-    new: &NewSide,
-    known: Option<KnownPairs>,
-) -> Result<FirstLine, AllocError>
-    requires old { IsSide (length new.now.part.names.items) old.now new.now.part.of.items }
-    requires new { IsSide (length new.now.part.names.items) new.now.side new.now.side.of.items }
-    requires known { ForSome known AreKnownPairs }
-    ensures first { let names = new.now.part.names.items in (v w : List (List ℕ) → Verdict) → AreVerdicts old.now new.now.part.of.items names v → AreVerdicts new.now.side new.now.side.of.items names w → IfOk result (λ made. made.line ≡ first_told (told_report v w names)) }
+fn first_beside(alloc: Global, sides: &NewSide, known: Option<KnownPairs>) -> Result<FirstLine, AllocError>
+    requires { ForSome known AreKnownPairs }
+    ensures first { (v w : List (List ℕ) → Verdict) → AreBothVerdicts sides.now v w → IfOk result (λ made. made.line ≡ first_told (told_report v w sides.now.part.names.items)) }
     ensures known { IfOk result (λ made. ForSome made.known AreKnownPairs) }
 {
-    let part = &new.part;
-    let FirstLines { lines, known } = first_lines_of(
-        alloc,
-        &part.names,
-        old,
-        &part.of,
-        &new.side,
-        known,
-    )?;
+    let FirstLines { lines, known } = first_lines_of(alloc, sides, known)?;
     let line = copy_of_first(alloc, &lines)?;
     Ok(FirstLine { line, known })
 }

@@ -5,14 +5,15 @@
 ghost use Rattle.std.specs.{Prelude.{◌≡◌, ◌<◌, ◌++◌, ℕ, IfOk, OnOk, is_some, length, slice_index_or}, List.{flat_map}};
 ghost use Rattle.listed.specs.Lists.{In};
 ghost use Rattle.row_book.specs.Book.{listed_for};
-ghost use Rattle.suite_compare.specs.{Comparing.{IsSide}, Kinds.{together_in, AreJoined, IsJudge}, Report.{finding}, declared.verdicts.Bad.{Bad}};
+ghost use Rattle.suite_compare.specs.{Kinds.{together_in, AreJoined}, Report.{finding}, declared.verdicts.Bad.{Bad}};
 ghost use Rattle.suite_compare.specs.Partners.{beside, beside_all, is_open, new_kind, old_kind, picked, ArePartners, IsJointTable};
 
+use crate::judge::Judge;
 use crate::kinds::{Joints, joints_of};
+use crate::new_side::NewSide;
 use crate::places::{PlaceList, place_at, places_at, places_by, sort_once};
 use crate::report::{Finding, finding_of};
-use crate::sides::Side;
-use crate::verdicts::{Bad, Judge, verdict_together};
+use crate::verdicts::{Bad, verdict_together};
 use clause_solver::Verdict;
 use listed::Listed;
 use std::alloc::{AllocError, Global};
@@ -45,19 +46,14 @@ struct Found {
 }
 
 /// The pairs of the kinds of each name in the old and in the new suite.
-pub(crate) fn joint_table(
-    alloc: Global,
-    old_of: &[usize],
-    new: &Side,
-) -> Result<JointTable, AllocError>
-    requires { IsSide (length old_of.now) new.now new.now.of.items }
-    ensures joined { IfOk result (λ table. AreJoined old_of.now new.now.of.items table.joints.old.items table.joints.new.items table.joints.of.items) }
+pub(crate) fn joint_table(alloc: Global, sides: &NewSide) -> Result<JointTable, AllocError>
+    ensures joined { IfOk result (λ table. AreJoined sides.now.part.of.items sides.now.side.of.items table.joints.old.items table.joints.new.items table.joints.of.items) }
     ensures fits { IfOk result IsJointTable }
-    ensures count { IfOk result (λ table. length table.by_new.items ≡ length new.now.judge.kinds.items) }
+    ensures count { IfOk result (λ table. length table.by_new.items ≡ length sides.now.side.judge.kinds.items) }
 {
-    let joints = joints_of(alloc, old_of, &new.of)?;
+    let joints = joints_of(alloc, &sides.part.of, &sides.side.of)?;
     let members = places_by(alloc, joints.new.len(), &joints.of)?;
-    let by_new = places_by(alloc, new.judge.kinds.len(), &joints.new)?;
+    let by_new = places_by(alloc, sides.side.judge.kinds.len(), &joints.new)?;
     Ok(JointTable {
         joints,
         members,
@@ -106,7 +102,6 @@ fn finding_with(
     second: usize,
     verdict: Verdict,
 ) -> Result<Option<Finding>, AllocError>
-    requires judge { IsJudge old.now }
     requires first { first < length old.now.kinds.items }
     requires second { second < length old.now.kinds.items }
     ensures { IfOk result (λ told. told ≡ finding (together_in old.now first second) verdict) }
@@ -150,7 +145,6 @@ fn add_joints(
     verdict: Verdict,
     found: &mut Found,
 ) -> Result<(), AllocError>
-    requires judge { IsJudge old.now }
     requires first { first < length old.now.kinds.items }
     requires olds { (a : ℕ) → a < length table.now.joints.old.items → old_kind table.now a < length old.now.kinds.items }
     requires fits { IsJointTable table.now }
@@ -176,7 +170,6 @@ fn add_bad(
     first: usize,
     found: &mut Found,
 ) -> Result<(), AllocError>
-    requires judge { IsJudge old.now }
     requires first { first < length old.now.kinds.items }
     requires olds { (a : ℕ) → a < length table.now.joints.old.items → old_kind table.now a < length old.now.kinds.items }
     requires fits { IsJointTable table.now }
@@ -199,7 +192,6 @@ pub(crate) fn partners_of(
     bad: &[Bad],
     first: usize,
 ) -> Result<Partners, AllocError>
-    requires judge { IsJudge old.now }
     requires first { first < length old.now.kinds.items }
     requires olds { (a : ℕ) → a < length table.now.joints.old.items → old_kind table.now a < length old.now.kinds.items }
     requires fits { IsJointTable table.now }

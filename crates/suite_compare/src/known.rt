@@ -2,9 +2,10 @@
 //! that their pairs need not be searched again.
 ghost use Rattle.std.specs.{Prelude.{◌≡◌, ◌<◌, IfOk}, Bool.{OnTrue}, Option.{ForSome}};
 ghost use Rattle.row_book.specs.Book.{Sound};
-ghost use Rattle.suite_compare.specs.{Bad.{AreAllBad, AreSingles}, Kinds.{IsJudge}, Known.{AreKnownPairs, IsAskedAlike}};
+ghost use Rattle.suite_compare.specs.{Bad.{AreAllBad, AreSingles}, Known.{AreKnownPairs, IsAskedAlike}};
 
-use crate::verdicts::{BadList, Judge, bad_lists};
+use crate::judge::Judge;
+use crate::verdicts::{BadList, bad_lists};
 use clause_pool::{NumList, Pool, RowId};
 use clause_solver::Verdict;
 use listed::Listed;
@@ -34,7 +35,6 @@ pub(crate) fn pairs_of(
     singles: &[Verdict],
     known: Option<KnownPairs>,
 ) -> Result<KnownPairs, AllocError>
-    requires judge { IsJudge judge.now }
     requires singles { AreSingles judge.now singles.now }
     requires known { ForSome known AreKnownPairs }
     ensures known { IfOk result AreKnownPairs }
@@ -51,15 +51,14 @@ pub(crate) fn pairs_of(
 
 // What is found of a judge's pairs, to be kept.
 fn kept_pairs(alloc: Global, judge: &Judge, lists: Vec<BadList>) -> Result<KnownPairs, AllocError>
-    requires judge { IsJudge judge.now }
-    requires lists { AreAllBad judge.now lists.items }
+    requires { AreAllBad judge.now lists.items }
     ensures known { IfOk result AreKnownPairs }
     ensures alike { IfOk result (λ made. IsAskedAlike made judge.now) }
 {
     let kinds = copies_of(alloc, &judge.kinds)?;
     let mut pool = Pool::new(alloc)?;
-    let copy = judge.book.copy(alloc)?;
-    let book = copy.carry(alloc, judge.pool, &mut pool)?;
+    let copy = judge.kernel.book.copy(alloc)?;
+    let book = copy.carry(alloc, judge.kernel.pool, &mut pool)?;
     Ok(KnownPairs {
         pool,
         book,
@@ -83,8 +82,7 @@ fn copies_of(alloc: Global, lists: &[NumList]) -> Result<Vec<NumList>, AllocErro
 
 // Whether a judge is asked of the same kinds of the same kernel within the same budget.
 fn is_alike(known: &KnownPairs, judge: &Judge) -> bool
-    requires known { Sound known.now.pool known.now.book }
-    requires judge { IsJudge judge.now }
+    requires { Sound known.now.pool known.now.book }
     ensures { OnTrue result (IsAskedAlike known.now judge.now) }
 {
     if known.budget != judge.budget {
@@ -93,5 +91,5 @@ fn is_alike(known: &KnownPairs, judge: &Judge) -> bool
     if !are_same_lists(&known.kinds, &judge.kinds) {
         return false;
     }
-    is_same_book(&known.pool, &known.book, judge.pool, judge.book)
+    is_same_book(&known.pool, &known.book, judge.kernel.pool, judge.kernel.book)
 }

@@ -11,13 +11,17 @@ mod decision;
 mod few;
 mod gather;
 mod install;
+mod judge;
 mod kinds;
 mod known;
 mod laws;
 mod lent;
+mod new_side;
+mod old_side;
 mod places;
 mod refusals;
 mod report;
+mod side;
 mod sides;
 mod suspect;
 mod tell;
@@ -39,9 +43,8 @@ pub use bearers::{bearers_of, classes_of_chosen};
 pub use comparison::{FirstLine, compare, first_line, first_line_by};
 pub use few::FewNumbers;
 pub use known::KnownPairs;
-pub use lent::LentKernel;
+pub use old_side::OldSide;
 pub use report::{Finding, LineList, Report, ReportLine};
-pub use sides::OldSide;
 
 // Laws.
 pub use laws::{answer_is_verdict, installations_serve, kernel_decides, verdict_is_judged};

@@ -1,14 +1,14 @@
 //! Which kinds may not go together: those whose first choices are at peace do.
 ghost use Rattle.std.specs.{Prelude.{◌≡◌, ◌<◌, ◌++◌, [], ℕ, IfOk, OnOk, length, slice_index_or}, List.{flat_map, range_with_len}};
-ghost use Rattle.row_book.specs.{Book.{listed_for, repository_of, Sound}, Needs.{NeedsFit}};
+ghost use Rattle.row_book.specs.{Book.{listed_for}, Lent.{repository_in}, Needs.{NeedsFit}};
 ghost use Rattle.suite_compare.specs.Suspects.{without_choice, AreAllChosen, AreChoices, AreHeld, AreHolders, AreSuspects};
 
 use crate::choose::first_choice;
 use crate::class_set::ClassSet;
 use crate::places::{PlaceList, classes_at, enter, places_at, sort_once};
-use clause_pool::{NumList, Pool};
+use clause_pool::NumList;
 use listed::empty_lists;
-use row_book::Book;
+use row_book::LentBook;
 use std::alloc::{AllocError, Global};
 
 /// The first choices of kinds, with tables to find those that may not go together.
@@ -44,21 +44,19 @@ fn most_members(in_all: usize) -> usize {
 /// The first choice of each kind.
 fn choices_of(
     alloc: Global,
-    pool: &Pool,
-    book: &Book,
+    kernel: &LentBook,
     kinds: &[NumList],
 ) -> Result<Vec<NumList>, AllocError>
-    requires sound { Sound pool.now book.now }
-    requires fit { NeedsFit (length book.now.rows) kinds.now }
-    ensures chosen { IfOk result (λ choices. AreAllChosen (repository_of pool.now book.now) kinds.now (length kinds.now) choices.items) }
-    ensures below { IfOk result (λ choices. NeedsFit (length book.now.rows) choices.items) }
+    requires { NeedsFit (length kernel.now.book.now.rows) kinds.now }
+    ensures chosen { IfOk result (λ choices. AreAllChosen (repository_in kernel.now) kinds.now (length kinds.now) choices.items) }
+    ensures below { IfOk result (λ choices. NeedsFit (length kernel.now.book.now.rows) choices.items) }
 {
-    let mut chosen = ClassSet::new(alloc, book.size())?;
+    let mut chosen = ClassSet::new(alloc, kernel.book.size())?;
     let mut choices = Vec::new(alloc);
     let mut in_all: usize = 0;
     for kind in kinds {
         let most = most_members(in_all);
-        let choice = first_choice(alloc, pool, book, kind.as_slice(), most, &mut chosen)?;
+        let choice = first_choice(alloc, kernel, kind.as_slice(), most, &mut chosen)?;
         in_all = in_all.saturating_add(choice.as_slice().len());
         choices.push(choice)?;
     }
@@ -105,16 +103,14 @@ impl Choices {
     /// The first choices of the kinds of a book, with their tables.
     pub(crate) fn new(
         alloc: Global,
-        pool: &Pool,
-        book: &Book,
+        kernel: &LentBook,
         kinds: &[NumList],
     ) -> Result<Choices, AllocError>
-        requires sound { Sound pool.now book.now }
-        requires fit { NeedsFit (length book.now.rows) kinds.now }
-        ensures { IfOk result (AreChoices (repository_of pool.now book.now) kinds.now) }
+        requires { NeedsFit (length kernel.now.book.now.rows) kinds.now }
+        ensures { IfOk result (AreChoices (repository_in kernel.now) kinds.now) }
     {
-        let of = choices_of(alloc, pool, book, kinds)?;
-        let mut holders = empty_lists(alloc, book.rows.as_slice().len())?;
+        let of = choices_of(alloc, kernel, kinds)?;
+        let mut holders = empty_lists(alloc, kernel.book.rows.as_slice().len())?;
         enter_choices(&mut holders, &of)?;
         let without = without_choice(alloc, &of)?;
         Ok(Choices {
@@ -128,15 +124,13 @@ impl Choices {
     pub(crate) fn suspects(
         &self,
         alloc: Global,
-        pool: &Pool,
-        book: &Book,
+        kernel: &LentBook,
         kinds: &[NumList],
         kind: usize,
     ) -> Result<Vec<usize>, AllocError>
-        requires sound { Sound pool.now book.now }
-        requires choices { AreChoices (repository_of pool.now book.now) kinds.now self.now }
+        requires choices { AreChoices (repository_in kernel.now) kinds.now self.now }
         requires kind { kind < length kinds.now }
-        ensures { IfOk result (λ suspects. AreSuspects book.now.conflicts self.now.of.items kind suspects.items) }
+        ensures { IfOk result (λ suspects. AreSuspects kernel.now.book.now.conflicts self.now.of.items kind suspects.items) }
     {
         let choices = self.of.as_slice();
         let choice = classes_at(choices, kind);
@@ -148,7 +142,7 @@ impl Choices {
         let holders = self.holders.as_slice();
         let mut found = Vec::from_slice(alloc, free)?;
         for class in choice {
-            let conflicts = book.against(*class);
+            let conflicts = kernel.book.against(*class);
             add_holders(conflicts, holders, &mut found)?;
         }
         sort_once(&mut found);

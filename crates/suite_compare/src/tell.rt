@@ -1,13 +1,13 @@
 //! The lines of a report.
 ghost use Rattle.std.specs.{Prelude.{◌≡◌, ◌<◌, ◌++◌, ℕ, OnOk, Some, filter, length, ltb, slice_index_or}, List.{flat_map, range_with_len}};
 ghost use Rattle.listed.specs.Lists.{In, Ascending};
-ghost use Rattle.suite_compare.specs.{Comparing.{goes_alone, IsSide}, Report.{pair_line, single_line}};
-ghost use Rattle.suite_compare.specs.Telling.{found_beside, partners_at, told_after, told_pair};
+ghost use Rattle.suite_compare.specs.{Comparing.{goes_alone}, Report.{pair_line, single_line}, Telling.{found_beside, partners_at, told_after, told_pair}};
 
 use crate::gather::{JointTable, Partners};
+use crate::new_side::NewSide;
 use crate::places::{holds, name_at, place_at};
 use crate::report::{Finding, LineList, ReportLine, is_yes};
-use crate::sides::{Side, verdict_of};
+use crate::sides::verdict_of;
 use deb_version::Bytes;
 use repo_model::LentName;
 use std::alloc::{AllocError, Global};
@@ -109,21 +109,20 @@ fn tell_later(
 /// Puts the lines of the pairs of names, each of which is found by itself, behind the others.
 pub(crate) fn tell_pairs(
     alloc: Global,
-    names: &[LentName],
-    new: &Side,
+    sides: &NewSide,
     table: &JointTable,
     partners: &[Partners],
     lines: &mut LineList,
 ) -> Result<(), AllocError>
-    requires new { IsSide (length names.now) new.now new.now.of.items }
-    requires joints { length table.now.joints.of.items ≡ length names.now }
-    requires within { (i : ℕ) → i < length names.now → slice_index_or table.now.joints.of.items i 0 < length partners.now }
-    requires told { (a j : ℕ) → a < length partners.now → In j (partners_at partners.now a).told → j < length names.now }
+    requires joints { length table.now.joints.of.items ≡ length sides.now.part.names.items }
+    requires within { (i : ℕ) → i < length sides.now.part.names.items → slice_index_or table.now.joints.of.items i 0 < length partners.now }
+    requires told { (a j : ℕ) → a < length partners.now → In j (partners_at partners.now a).told → j < length sides.now.part.names.items }
     requires undecided { (a : ℕ) → a < length partners.now → Ascending (partners_at partners.now a).undecided }
-    ensures { OnOk result (lines.new ≡ lines.old ++ flat_map (told_after names.now table.now.joints.of.items partners.now) (filter (goes_alone new.now) (range_with_len 0 (length names.now)))) }
+    ensures { let names = sides.now.part.names.items in OnOk result (lines.new ≡ lines.old ++ flat_map (told_after names table.now.joints.of.items partners.now) (filter (goes_alone sides.now.side) (range_with_len 0 (length names)))) }
 {
+    let names = sides.part.names.as_slice();
     for place in 0..names.len() {
-        if !is_yes(verdict_of(new, &new.of, place)) {
+        if !is_yes(verdict_of(&sides.side, &sides.side.of, place)) {
             continue;
         }
         let joint = place_at(&table.joints.of, place);

@@ -4,32 +4,18 @@
 //! one tree.
 ghost use Rattle.std.specs.{Prelude.{◌≡◌, ◌<◌, ◌==◌, ◌⊎◌, ◌∷◌, [], ℕ, true, IfOk, length, slice_index_or}, List.{find, flat_map}, Option.{option_copied}};
 ghost use Rattle.row_book.specs.{Book.{listed_for}, Needs.{IsNeed, NeedsFit}};
-ghost use Rattle.suite_compare.specs.Kinds.{alone_in, kernel_in, kernel_verdict, together_in, AreRivals, IsJudge, IsOneClass};
+ghost use Rattle.suite_compare.specs.Kinds.{alone_in, kernel_in, kernel_verdict, together_in, AreRivals, IsOneClass};
 ghost use Rattle.suite_compare.specs.{Bad.{bad_entry, entered_verdict, AreAllBad, AreAllBadTo, AreBad, AreSingles}, Report.{is_yes}, Suspects.{AreChoices}};
 
+use crate::judge::Judge;
 use crate::places::{classes_at, verdict_at};
 use crate::report::is_yes;
 use crate::suspect::Choices;
-use clause_pool::{NumList, Pool};
-use clause_solver::{Solver, Verdict};
+use clause_pool::NumList;
+use clause_solver::Verdict;
 use listed::Listed;
 use row_book::{Book, Needs};
 use std::alloc::{AllocError, Global};
-
-/// What verdicts on kinds are asked of: the book of a kernel with its solver, the kinds, and the budget of each search.
-#[derive(Drop)]
-pub(crate) struct Judge<'a> {
-    /// The pool of the book's rows.
-    pub(crate) pool: &'a Pool,
-    /// The book of the kernel.
-    pub(crate) book: &'a Book,
-    /// The solver of the book.
-    pub(crate) solver: Solver,
-    /// The kinds.
-    pub(crate) kinds: Vec<NumList>,
-    /// The most failed leaves of a search.
-    pub(crate) budget: u64,
-}
 
 /// A kind that does not go together with another, or is not known to.
 #[derive(Clone, Copy, Drop)]
@@ -45,24 +31,22 @@ pub(crate) type BadList = Listed<Bad>;
 
 /// The classes of a kind.
 fn classes_of<'a>(judge: &'a Judge, kind: usize) -> &'a [u32]
-    requires judge { IsJudge judge.now }
-    requires kind { kind < length judge.now.kinds.items }
+    requires { kind < length judge.now.kinds.items }
     ensures is { result.now ≡ listed_for judge.now.kinds.items kind }
     ensures need { IsNeed result.now }
-    ensures below { (i : ℕ) → i < length result.now → slice_index_or result.now i 0 < length judge.now.book.now.rows }
+    ensures below { (i : ℕ) → i < length result.now → slice_index_or result.now i 0 < length judge.now.kernel.book.now.rows }
 {
     classes_at(&judge.kinds, kind)
 }
 
 /// The verdict of a search.
 fn verdict_on(alloc: Global, judge: &Judge, goals: &Needs) -> Result<Verdict, AllocError>
-    requires judge { IsJudge judge.now }
-    requires goals { NeedsFit (length judge.now.book.now.rows) goals.now }
+    requires { NeedsFit (length judge.now.kernel.book.now.rows) goals.now }
     ensures { IfOk result (λ verdict. verdict ≡ kernel_verdict (kernel_in judge.now) judge.now.budget goals.now) }
 {
     let verdict = judge
         .solver
-        .verdict(alloc, judge.pool, judge.book, goals, judge.budget)?;
+        .verdict(alloc, goals, judge.budget)?;
     Ok(verdict)
 }
 
@@ -89,8 +73,7 @@ fn two_goals(alloc: Global, first: &[u32], second: &[u32]) -> Result<Needs, Allo
 
 /// The verdict on a kind by itself.
 fn verdict_alone(alloc: Global, judge: &Judge, kind: usize) -> Result<Verdict, AllocError>
-    requires judge { IsJudge judge.now }
-    requires kind { kind < length judge.now.kinds.items }
+    requires { kind < length judge.now.kinds.items }
     ensures { IfOk result (λ verdict. verdict ≡ alone_in judge.now kind) }
 {
     let goals = one_goal(alloc, classes_of(judge, kind))?;
@@ -117,14 +100,13 @@ pub(crate) fn verdict_together(
     first: usize,
     second: usize,
 ) -> Result<Verdict, AllocError>
-    requires judge { IsJudge judge.now }
     requires first { first < length judge.now.kinds.items }
     requires second { second < length judge.now.kinds.items }
     ensures { IfOk result (λ verdict. verdict ≡ together_in judge.now first second) }
 {
     let one = classes_of(judge, first);
     let other = classes_of(judge, second);
-    if are_rivals(judge.book, one, other) {
+    if are_rivals(judge.kernel.book, one, other) {
         return Ok(Verdict::No);
     }
     let goals = two_goals(alloc, one, other)?;
@@ -134,7 +116,6 @@ pub(crate) fn verdict_together(
 
 /// The verdict on each kind by itself.
 pub(crate) fn verdicts_alone(alloc: Global, judge: &Judge) -> Result<Vec<Verdict>, AllocError>
-    requires { IsJudge judge.now }
     ensures { IfOk result (λ verdicts. AreSingles judge.now verdicts.items) }
 {
     let mut verdicts = Vec::new(alloc);
@@ -200,7 +181,6 @@ fn verdict_beside(
     first: usize,
     second: usize,
 ) -> Result<Verdict, AllocError>
-    requires judge { IsJudge judge.now }
     requires lists { AreAllBadTo judge.now lists.now (length lists.now) }
     requires first { first < length judge.now.kinds.items }
     requires second { second < length judge.now.kinds.items }
@@ -210,7 +190,7 @@ fn verdict_beside(
 {
     let one = classes_of(judge, first);
     let other = classes_of(judge, second);
-    if is_told(judge.book, one, other, second, lists.len()) {
+    if is_told(judge.kernel.book, one, other, second, lists.len()) {
         return Ok(entered(bads_at(lists, second), first));
     }
     let verdict = verdict_together(alloc, judge, first, second)?;
@@ -226,7 +206,6 @@ fn bad_among(
     suspects: &[usize],
     kind: usize,
 ) -> Result<BadList, AllocError>
-    requires judge { IsJudge judge.now }
     requires singles { AreSingles judge.now singles.now }
     requires lists { AreAllBadTo judge.now lists.now (length lists.now) }
     requires suspects { (i : ℕ) → i < length suspects.now → slice_index_or suspects.now i 0 < length judge.now.kinds.items }
@@ -260,7 +239,6 @@ fn bad_with(
     lists: &[BadList],
     kind: usize,
 ) -> Result<BadList, AllocError>
-    requires judge { IsJudge judge.now }
     requires singles { AreSingles judge.now singles.now }
     requires choices { AreChoices (kernel_in judge.now) judge.now.kinds.items choices.now }
     requires lists { AreAllBadTo judge.now lists.now (length lists.now) }
@@ -270,7 +248,7 @@ fn bad_with(
     if !is_yes(verdict_at(singles, kind)) {
         return Ok(Listed::new(alloc));
     }
-    let suspects = choices.suspects(alloc, judge.pool, judge.book, &judge.kinds, kind)?;
+    let suspects = choices.suspects(alloc, &judge.kernel, &judge.kinds, kind)?;
     let bad = bad_among(alloc, judge, singles, lists, suspects.as_slice(), kind)?;
     Ok(bad)
 }
@@ -281,11 +259,10 @@ pub(crate) fn bad_lists(
     judge: &Judge,
     singles: &[Verdict],
 ) -> Result<Vec<BadList>, AllocError>
-    requires judge { IsJudge judge.now }
-    requires singles { AreSingles judge.now singles.now }
+    requires { AreSingles judge.now singles.now }
     ensures { IfOk result (λ lists. AreAllBad judge.now lists.items) }
 {
-    let choices = Choices::new(alloc, judge.pool, judge.book, &judge.kinds)?;
+    let choices = Choices::new(alloc, &judge.kernel, &judge.kinds)?;
     let mut lists = Vec::new(alloc);
     for kind in 0..judge.kinds.len() {
         let bad = bad_with(alloc, judge, singles, &choices, &lists, kind)?;

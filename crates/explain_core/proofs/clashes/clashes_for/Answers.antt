@@ -2,15 +2,9 @@ use Rattle.std.proofs.Common.{◌∙◌, length, sym, ap, subst}
 use Rattle.row_book.specs.{Book.{repository_of, PairsFit}, Flags.{flag}, Needs.{NeedsFit}, Sound.{SoundRepository}}
 use Rattle.row_book.proofs.BookRepositories.{book_size}
 use Rattle.explain_core.specs.{Reach.{IsReach}, Reasons.{clashes_of, verdict_over}, Deletion.{kept_of}}
-use Rattle.explain_core.proofs.{AnyConflicts.{solves_any}, ClashLoop.{given_reasons, open_reasons, reached_are}, Withins.{within_fit}}
+use Rattle.explain_core.proofs.{ClashLoop.{given_reasons, open_reasons, reached_are}, Withins.{within_fit}}
 use Rattle.suite_compare.proofs.SuiteKernels.{suite_sound}
 use Rattle.explain_core.proofs.clashes.clashes_for.Goals as goal
-
-pub verdict_over-requires-clause-solver : goal.verdict_over-requires-clause-solver
-verdict_over-requires-clause-solver c = solves_any c.args.view.now.pool c.args.view.now.book c.in_ok-solver.solver c.args.view.now.of_suite.book_is.sound c.in_ok-solver.ensures
-
-pub reasons_among-requires-clause-solver : goal.reasons_among-requires-clause-solver
-reasons_among-requires-clause-solver c = solves_any c.args.view.now.pool c.args.view.now.book c.in_ok-solver.solver c.args.view.now.of_suite.book_is.sound c.in_ok-solver.ensures
 
 pub verdict_over-requires-clause-pairs : goal.verdict_over-requires-clause-pairs
 verdict_over-requires-clause-pairs c =

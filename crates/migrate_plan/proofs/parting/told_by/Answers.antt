@@ -11,6 +11,9 @@ classes_of_chosen-requires-clause-flags c = bearers_within c.args.whole.now c.re
 pub classes_of_chosen-requires-clause-classes : goal.classes_of_chosen-requires-clause-classes
 classes_of_chosen-requires-clause-classes c = ap length c.classes_in.ensures ∙ c.requires.kernel.size
 
+pub lent_kernel-kernel-requires : goal.lent_kernel-kernel-requires
+lent_kernel-kernel-requires c = c.requires.kernel.book_is.sound
+
 pub first_line_by-first-requires-clause-fits : goal.first_line_by-first-requires-clause-fits
 first_line_by-first-requires-clause-fits c =
     let whole = c.args.whole.now in

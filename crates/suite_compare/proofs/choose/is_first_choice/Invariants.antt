@@ -5,4 +5,4 @@ use Rattle.suite_compare.specs.Choices.{IsServed}
 use Rattle.suite_compare.proofs.choose.is_first_choice.Given as goal
 
 abbrev pub invariant-loop-class : goal.invariant-loop-class
-invariant-loop-class l = (p : ℕ) → In p (take l.class-index l.class-items) → IsServed (repository_of l.pool l.book) l.chosen.1 p
+invariant-loop-class l = (p : ℕ) → In p (take l.class-index l.class-items) → IsServed (repository_of l.kernel.pool.now l.kernel.book.now) l.chosen.1 p

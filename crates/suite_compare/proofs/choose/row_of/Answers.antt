@@ -6,10 +6,10 @@ use Rattle.suite_compare.proofs.Chosen.{row_numbers}
 use Rattle.suite_compare.proofs.choose.row_of.Goals as goal
 
 pub row-requires : goal.row-requires
-row-requires c = rw c.row-id.ensures (c.requires.sound.rows.of_pool _ (In_at c.args.book.now.rows c.args.class 0 c.requires.class))
+row-requires c = rw c.row-id.ensures (c.args.kernel.now.sound.rows.of_pool _ (In_at c.args.kernel.now.book.now.rows c.args.class 0 c.requires))
 
 pub returns-clause-clauses : goal.returns-clause-clauses
-returns-clause-clauses c = ap (clauses_at c.args.pool.now) (c.row.ensures.lent ∙ ap (ids_at c.args.pool.now) c.row-id.ensures) ∙ sym (clauses_row c.args.pool.now c.args.book.now c.args.class c.requires.class)
+returns-clause-clauses c = ap (clauses_at c.args.kernel.now.pool.now) (c.row.ensures.lent ∙ ap (ids_at c.args.kernel.now.pool.now) c.row-id.ensures) ∙ sym (clauses_row c.args.kernel.now.pool.now c.args.kernel.now.book.now c.args.class c.requires)
 
 pub returns-clause-numbers : goal.returns-clause-numbers
-returns-clause-numbers c = row_numbers c.args.pool.now c.args.book.now c.args.class c.row.result.now c.requires.sound c.requires.class (c.row.ensures.lent ∙ ap (ids_at c.args.pool.now) c.row-id.ensures)
+returns-clause-numbers c = row_numbers c.args.kernel.now.pool.now c.args.kernel.now.book.now c.args.class c.row.result.now c.args.kernel.now.sound c.requires (c.row.ensures.lent ∙ ap (ids_at c.args.kernel.now.pool.now) c.row-id.ensures)

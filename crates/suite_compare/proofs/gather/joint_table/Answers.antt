@@ -4,7 +4,7 @@ use Rattle.suite_compare.proofs.Paired.{listed_below}
 use Rattle.suite_compare.proofs.gather.joint_table.Goals as goal
 
 pub joints_of-requires : goal.joints_of-requires
-joints_of-requires c = sym (ap length c.deref.ensures.value ∙ c.requires.long)
+joints_of-requires c = PLACE
 
 pub places_by-requires : goal.places_by-requires
 places_by-requires c = λ i l.
@@ -14,8 +14,8 @@ places_by-requires c = λ i l.
 pub places_by-requires-2 : goal.places_by-requires-2
 places_by-requires-2 c = λ i l.
     let j = c.in_ok-joints.ensures.only_new _ (In_at c.in_ok-joints.joints.new.items i 0 (subst (λ z. i < length z) c.deref-3.ensures.value l)) in
-    let lt = listed_below c.args.new.now.of.items _ _ c.requires.long c.requires.within _ (subst (λ z. In (get_or c.in_ok-joints.joints.new.items i 0) z) c.deref.ensures.value j) in
-    rw c.deref-3.ensures.value (omega (arith, lt, c.len-2.ensures, c.args.new.now.judge.kinds.ok.0))
+    let lt = listed_below c.args.sides.now.side.of.items _ _ refl c.args.sides.now.side.within _ (subst (λ z. In (get_or c.in_ok-joints.joints.new.items i 0) z) c.deref.ensures.value j) in
+    rw c.deref-3.ensures.value (omega (arith, lt, c.len-2.ensures, c.args.sides.now.side.judge.kinds.ok.0))
 
 pub returns-clause-joined : goal.returns-clause-joined
 returns-clause-joined c = rw c.deref.ensures.value at c.in_ok-joints.ensures
@@ -27,6 +27,6 @@ returns-clause-fits c = record {
   placed = rw c.deref-2.ensures.value at c.in_ok-members.ensures.places;
   sorted = rw c.deref-3.ensures.value at c.in_ok-by_new.ensures.places;
   news = λ a l.
-      let lt = listed_below c.args.new.now.of.items _ _ c.requires.long c.requires.within _ (subst (λ z. In (get_or c.in_ok-joints.joints.new.items a 0) z) c.deref.ensures.value (c.in_ok-joints.ensures.only_new _ (In_at c.in_ok-joints.joints.new.items a 0 l))) in
-      omega (arith, lt, c.in_ok-by_new.ensures.size, c.len-2.ensures, c.args.new.now.judge.kinds.ok.0);
+      let lt = listed_below c.args.sides.now.side.of.items _ _ refl c.args.sides.now.side.within _ (subst (λ z. In (get_or c.in_ok-joints.joints.new.items a 0) z) c.deref.ensures.value (c.in_ok-joints.ensures.only_new _ (In_at c.in_ok-joints.joints.new.items a 0 l))) in
+      omega (arith, lt, c.in_ok-by_new.ensures.size, c.len-2.ensures, c.args.sides.now.side.judge.kinds.ok.0);
 }

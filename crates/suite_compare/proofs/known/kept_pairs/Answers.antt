@@ -9,12 +9,12 @@ pub returns-clause-known : goal.returns-clause-known
 returns-clause-known c =
     let kernel : repository_of c.carry.new.into c.in_ok-book.book ≡ kernel_in c.args.judge.now =
     c.in_ok-book.ensures.same.repository
-    ∙ repository_same (repository_of c.args.judge.now.pool.now c.in_ok-copy.copy) (kernel_in c.args.judge.now) (ap (map (row_at c.args.judge.now.pool.now)) c.in_ok-copy.ensures.rows) c.in_ok-copy.ensures.conflicts in
+    ∙ repository_same (repository_of c.args.judge.now.kernel.pool.now c.in_ok-copy.copy) (kernel_in c.args.judge.now) (ap (map (row_at c.args.judge.now.kernel.pool.now)) c.in_ok-copy.ensures.rows) c.in_ok-copy.ensures.conflicts in
     record {
       sound = c.in_ok-book.ensures.same.sound (record {
-        rows = subst (RowsFit c.args.judge.now.pool.now) (sym c.in_ok-copy.ensures.rows) c.requires.judge.sound.rows;
-        conflicts = subst AreConflicts (sym c.in_ok-copy.ensures.conflicts) c.requires.judge.sound.conflicts;
+        rows = subst (RowsFit c.args.judge.now.kernel.pool.now) (sym c.in_ok-copy.ensures.rows) c.args.judge.now.kernel.sound.rows;
+        conflicts = subst AreConflicts (sym c.in_ok-copy.ensures.conflicts) c.args.judge.now.kernel.sound.conflicts;
       });
       bad = λ judge alike.
-          all_bad_alike c.args.judge.now judge (alike.kernel ∙ kernel) (alike.kinds ∙ c.in_ok-kinds.ensures ∙ c.deref.ensures.value) alike.budget c.args.lists.items c.requires.lists;
+          all_bad_alike c.args.judge.now judge (alike.kernel ∙ kernel) (alike.kinds ∙ c.in_ok-kinds.ensures ∙ c.deref.ensures.value) alike.budget c.args.lists.items c.requires;
     }

@@ -1,8 +1,8 @@
 use Rattle.std.{proofs.Common.{◌≡◌, ◌∙◌, ap, filter, get_or, length, map, sym, subst}, proofs.lemmas.List.{length-map}}
 use Rattle.row_book.specs.Book.{listed_for}
-use Rattle.suite_compare.specs.{Bearers.{filled_places}, Comparing.{new_verdict, AreVerdicts, IsSide}, Names.{stands_in}}
+use Rattle.suite_compare.specs.{Bearers.{filled_places}, Comparing.{new_verdict}, Names.{stands_in}, Sided.{AreVerdicts}}
 use Rattle.suite_compare.proofs.Bearing.{images_at, lists_fit, lists_need, names_among, names_borne, places_within}
-use Rattle.suite_compare.proofs.Named.{part_side, part_verdicts, verdicts_are}
+use Rattle.suite_compare.proofs.Named.{part_verdicts, part_within, verdicts_are}
 use Rattle.suite_compare.proofs.sides.new_side_by.Goals as goal
 use Rattle.suite_compare.proofs.sides.new_side_by.Goals.{In_ok-places}
 
@@ -10,19 +10,13 @@ use Rattle.suite_compare.proofs.sides.new_side_by.Goals.{In_ok-places}
 places_are : (c : In_ok-places) → c.in_ok-places.places.items ≡ filled_places c.args.classes.items
 places_are c = c.in_ok-places.ensures ∙ ap filled_places c.deref.ensures.value
 
-pub part_at-requires-clause-count : goal.part_at-requires-clause-count
-part_at-requires-clause-count c = c.requires.side.side_is.long
-
-pub part_at-requires-clause-places : goal.part_at-requires-clause-places
-part_at-requires-clause-places c =
-    places_within c.args.classes.items c.deref-2.result.now (length c.args.old.now.names) (c.deref-2.ensures.value ∙ places_are (goal.at.part_at-requires-clause-places c).In_ok-places) c.requires.count
+pub part_at-requires : goal.part_at-requires
+part_at-requires c =
+    places_within c.args.classes.items c.deref-2.result.now (length c.args.old.now.names) (c.deref-2.ensures.value ∙ places_are (goal.at.part_at-requires c).In_ok-places) c.requires.count
 
 pub lists_at-requires : goal.lists_at-requires
 lists_at-requires c =
     places_within c.args.classes.items c.deref-4.result.now (length c.deref-3.result.now) (c.deref-4.ensures.value ∙ places_are (goal.at.lists_at-requires c).In_ok-places) (sym (ap length c.deref-3.ensures.value))
-
-pub side_by-requires-clause-sound : goal.side_by-requires-clause-sound
-side_by-requires-clause-sound c = c.requires.fits.sound
 
 pub side_by-requires-clause-needs : goal.side_by-requires-clause-needs
 side_by-requires-clause-needs c =
@@ -36,42 +30,28 @@ side_by-requires-clause-fit c =
     lists_fit (length c.args.kernel.now.book.now.rows) c.args.classes.items c.deref-5.result.now places (c.deref-4.ensures.value ∙ places_are (goal.at.side_by-requires-clause-fit c).In_ok-places)
     (c.deref-5.ensures.value ∙ c.in_ok-lists.ensures ∙ ap (λ z. map (listed_for z) places) c.deref-3.ensures.value) c.requires.fits.within
 
-pub returns-clause-sides : goal.returns-clause-sides
-returns-clause-sides c =
-    let old = c.args.old.now in
-    let part = c.in_ok-part.part in
-    let side = c.in_ok-side.side in
-    let places = c.deref-2.result.now in
-    let are = places_are (goal.at.returns-clause-sides c).In_ok-places in
-    let count : length part.names.items ≡ length places = ap length c.in_ok-part.ensures.names ∙ length-map places (listed_for old.names) in
-    let long : length part.of.items ≡ length part.names.items = ap length c.in_ok-part.ensures.kinds ∙ length-map places (λ place. get_or old.side.of.items place 0) ∙ sym count in
-    let among = names_among old.names old.side.of.items places part.names.items part.of.items (places_within c.args.classes.items places (length old.names) (c.deref-2.ensures.value ∙ are) c.requires.count)
-    c.in_ok-part.ensures.names c.in_ok-part.ensures.kinds in
-    let lists : length c.deref-5.result.now ≡ length places =
-    ap length (c.deref-5.ensures.value ∙ c.in_ok-lists.ensures) ∙ length-map c.deref-4.result.now (listed_for c.deref-3.result.now) ∙ ap length (c.deref-4.ensures.value ∙ sym c.deref-2.ensures.value) in
-    record {
-      old_is = part_side old.names part.names.items old.side.of.items part.of.items old.side among long c.requires.side.side_is;
-      new_is = subst (λ n. IsSide n side side.of.items) (lists ∙ sym count) c.in_ok-side.ensures.side_is;
-      was = part_verdicts old.names part.names.items old.side.of.items part.of.items old.side _ among c.requires.side.was;
-    }
-
-pub returns-clause-names : goal.returns-clause-names
-returns-clause-names c = λ home stanzas is borne.
+pub returns : goal.returns
+returns c = λ home stanzas is borne.
     let old = c.args.old.now in
     let view = old.view.now in
     let part = c.in_ok-part.part in
     let side = c.in_ok-side.side in
     let classes = c.args.classes.items in
     let places = c.deref-4.result.now in
-    let are = places_are (goal.at.returns-clause-names c).In_ok-places in
+    let are = places_are (goal.at.returns c).In_ok-places in
     let named = map (listed_for old.names) places in
     let same : named ≡ part.names.items = ap (map (listed_for old.names)) (c.deref-4.ensures.value ∙ sym c.deref-2.ensures.value) ∙ sym c.in_ok-part.ensures.names in
     let lists = c.deref-5.ensures.value ∙ c.in_ok-lists.ensures ∙ ap (λ z. map (listed_for z) places) c.deref-3.ensures.value
     ∙ images_at view.limit view.kernel.hold home stanzas old.names classes places borne (places_within classes places (length old.names) (c.deref-4.ensures.value ∙ are) c.requires.count) in
     let told : AreVerdicts side side.of.items named (new_verdict old home stanzas) =
-    verdicts_are view.limit view.kernel.hold home stanzas old.budget _ named c.deref-5.result.now side is.repository lists c.in_ok-side.ensures in
+    verdicts_are view.limit view.kernel.hold home stanzas old.budget _ named c.deref-5.result.now side is lists c.in_ok-side.ensures in
     record {
       names_are = c.in_ok-part.ensures.names ∙ ap (map (listed_for old.names)) (c.deref-2.ensures.value ∙ are)
-          ∙ names_borne view.limit view.kernel.hold home stanzas old.names classes borne ∙ ap (filter (stands_in stanzas)) c.requires.side.names_are;
-      is = subst (λ z. AreVerdicts side side.of.items z (new_verdict old home stanzas)) same told;
+          ∙ names_borne view.limit view.kernel.hold home stanzas old.names classes borne ∙ ap (filter (stands_in stanzas)) old.names_are;
+      are = record {
+        old = part_verdicts old.names part.names.items old.side.of.items part.of.items old.side _
+            (names_among old.names old.side.of.items c.deref-2.result.now part.names.items part.of.items (places_within classes c.deref-2.result.now (length old.names) (c.deref-2.ensures.value ∙ are) c.requires.count)
+            c.in_ok-part.ensures.names c.in_ok-part.ensures.kinds) old.was;
+        new = subst (λ z. AreVerdicts side side.of.items z (new_verdict old home stanzas)) same told;
+      };
     }

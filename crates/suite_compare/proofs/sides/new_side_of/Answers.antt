@@ -28,8 +28,8 @@ new_side_by-requires-clause-count c =
     let image : List ℕ → List ℕ = λ name. image_of view.limit view.kernel.hold view.suite.home view.suite.packages (any_version name) in
     ap length (classes_are (goal.at.new_side_by-requires-clause-count c).In_ok-classes) ∙ length-map c.names.result.now image ∙ ap length c.names.ensures
 
-pub returns-clause-names : goal.returns-clause-names
-returns-clause-names c =
+pub returns : goal.returns
+returns c =
     let new = c.args.new.now in
-    c.in_ok-made.ensures.names new.suite.home new.suite.packages (rw (sym c.requires.limit, sym c.requires.hold) c.kernel_of-kernel.ensures)
-    (classes_are (goal.at.returns-clause-names c).In_ok-classes ∙ rw (c.requires.limit, c.requires.hold, c.names.ensures) refl)
+    c.in_ok-made.ensures new.suite.home new.suite.packages (rw (sym c.requires.limit, sym c.requires.hold) c.kernel_of-kernel.ensures)
+    (classes_are (goal.at.returns c).In_ok-classes ∙ rw (c.requires.limit, c.requires.hold, c.names.ensures) refl)

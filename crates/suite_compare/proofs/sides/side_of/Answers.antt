@@ -1,6 +1,6 @@
-use Rattle.std.{proofs.Common.{◌≡◌, ◌∙◌, List, ℕ, ap, length, subst}, proofs.lemmas.List.{length-map}, proofs.lemmas.Result.{IfOk-weaker}}
+use Rattle.std.{proofs.Common.{◌≡◌, ◌∙◌, List, ℕ, ap, length}, proofs.lemmas.List.{length-map}, proofs.lemmas.Result.{IfOk-weaker}}
 use Rattle.repo_model.specs.Goals.{any_version}
-use Rattle.suite_compare.specs.{Asking.{image_of}, Bearers.{bearer_classes}, Comparing.{IsSide}}
+use Rattle.suite_compare.specs.{Asking.{image_of}, Bearers.{bearer_classes}}
 use Rattle.suite_compare.proofs.{Bearing.{all_need, bearers_each, bearers_known, images_fit}, Named.{verdicts_are}}
 use Rattle.suite_compare.proofs.sides.side_of.Goals as goal
 use Rattle.suite_compare.proofs.sides.side_of.Goals.{In_ok-classes}
@@ -17,9 +17,6 @@ classes_of_each-requires c =
     let view = c.args.view.now in
     bearers_known view.limit view.kernel.hold view.suite.home view.suite.packages c.as_slice.result.now (c.as_slice.ensures ∙ view.of_suite.kernel_is.class_of) c.args.names.now c.deref.result.now (c.deref.ensures.value ∙ c.in_ok-named.ensures)
 
-pub side_by-requires-clause-sound : goal.side_by-requires-clause-sound
-side_by-requires-clause-sound c = c.args.view.now.of_suite.kernel_is.book.sound
-
 pub side_by-requires-clause-needs : goal.side_by-requires-clause-needs
 side_by-requires-clause-needs c =
     let view = c.args.view.now in
@@ -28,19 +25,19 @@ side_by-requires-clause-needs c =
 pub side_by-requires-clause-fit : goal.side_by-requires-clause-fit
 side_by-requires-clause-fit c =
     let view = c.args.view.now in
-    images_fit view.limit view.kernel.hold view.suite.home view.suite.packages view.pool view.kernel.book c.args.names.now c.deref-2.result.now view.of_suite.kernel_is.book
+    images_fit view.limit view.kernel.hold view.suite.home view.suite.packages _ c.args.names.now c.deref-2.result.now c.kernel_of-kernel.ensures
     (c.deref-2.ensures.value ∙ classes_are (goal.at.side_by-requires-clause-fit c).In_ok-classes)
 
-pub returns-clause-side : goal.returns-clause-side
-returns-clause-side c =
+pub returns-clause-long : goal.returns-clause-long
+returns-clause-long c =
     let view = c.args.view.now in
     let image : List ℕ → List ℕ = λ name. image_of view.limit view.kernel.hold view.suite.home view.suite.packages (any_version name) in
-    let count : length c.deref-2.result.now ≡ length c.args.names.now = ap length (c.deref-2.ensures.value ∙ classes_are (goal.at.returns-clause-side c).In_ok-classes) ∙ length-map c.args.names.now image in
-    IfOk-weaker c.side_by.result _ _ (λ side is. subst (λ n. IsSide n side side.of.items) count is.side_is) c.side_by.ensures
+    let count : length c.deref-2.result.now ≡ length c.args.names.now = ap length (c.deref-2.ensures.value ∙ classes_are (goal.at.returns-clause-long c).In_ok-classes) ∙ length-map c.args.names.now image in
+    IfOk-weaker c.side_by.result _ _ (λ side is. is.side_is.long ∙ count) c.side_by.ensures
 
 pub returns-clause-verdicts : goal.returns-clause-verdicts
 returns-clause-verdicts c =
     let view = c.args.view.now in
     IfOk-weaker c.side_by.result _ _ (λ side is.
-    verdicts_are view.limit view.kernel.hold view.suite.home view.suite.packages c.args.budget _ c.args.names.now c.deref-2.result.now side view.of_suite.kernel_is.book.repository
+    verdicts_are view.limit view.kernel.hold view.suite.home view.suite.packages c.args.budget _ c.args.names.now c.deref-2.result.now side c.kernel_of-kernel.ensures
     (c.deref-2.ensures.value ∙ classes_are (goal.at.returns-clause-verdicts c).In_ok-classes) is) c.side_by.ensures

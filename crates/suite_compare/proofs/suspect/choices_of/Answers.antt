@@ -7,7 +7,7 @@ pub loop-kind-init : goal.loop-kind-init
 loop-kind-init c = record { size = ap (λ w. w.0) c.in_ok-chosen.ensures ∙ c.size.ensures; chosen = each_none _ [] c.new-choices.result.items c.new-choices.ensures.items }
 
 pub first_choice-requires-clause-goal : goal.first_choice-requires-clause-goal
-first_choice-requires-clause-goal c = rw c.as_slice.ensures (c.requires.fit c.kind-item.result (item_in c.args.kinds.now c.loop-kind.kind-index c.kind-item.result c.loop-kind-test.true c.kind-item.is))
+first_choice-requires-clause-goal c = rw c.as_slice.ensures (c.requires c.kind-item.result (item_in c.args.kinds.now c.loop-kind.kind-index c.kind-item.result c.loop-kind-test.true c.kind-item.is))
 
 pub first_choice-requires-clause-size : goal.first_choice-requires-clause-size
 first_choice-requires-clause-size c = c.loop-kind.invariant.size
@@ -23,4 +23,4 @@ pub returns-clause-chosen : goal.returns-clause-chosen
 returns-clause-chosen c = let e : c.loop-kind.kind-index ≡ length c.args.kinds.now = omega (arith, c.loop-kind-test.false, c.loop-kind.auto.kind-index-end) in rw e at c.loop-kind.invariant.chosen
 
 pub returns-clause-below : goal.returns-clause-below
-returns-clause-below c = chosen_fit c.args.pool.now c.args.book.now c.args.kinds.now c.loop-kind.choices.items c.loop-kind.kind-index c.loop-kind.invariant.chosen
+returns-clause-below c = chosen_fit c.args.kernel.now.pool.now c.args.kernel.now.book.now c.args.kinds.now c.loop-kind.choices.items c.loop-kind.kind-index c.loop-kind.invariant.chosen

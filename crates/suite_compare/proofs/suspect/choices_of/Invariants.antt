@@ -5,6 +5,6 @@ use Rattle.suite_compare.proofs.suspect.choices_of.Given as goal
 
 abbrev pub invariant-loop-kind : goal.invariant-loop-kind
 invariant-loop-kind l = record {
-  size : l.chosen.0 ≡ length l.book.rows;
-  chosen : AreAllChosen (repository_of l.pool l.book) l.kinds l.kind-index l.choices.items;
+  size : l.chosen.0 ≡ length l.kernel.book.now.rows;
+  chosen : AreAllChosen (repository_of l.kernel.pool.now l.kernel.book.now) l.kinds l.kind-index l.choices.items;
 }

@@ -18,5 +18,5 @@ bad_among-requires-clause-suspects c = λ i l. rw (c.as_slice.ensures.value, ←
 
 pub returns : goal.returns
 returns c =
-    bad_from c.args.judge.now c.args.singles.now c.args.choices.now c.args.kind c.in_ok-suspects.suspects.items c.in_ok-bad.bad c.requires.judge c.requires.kind c.requires.singles c.requires.choices c.in_ok-suspects.ensures
+    bad_from c.args.judge.now c.args.singles.now c.args.choices.now c.args.kind c.in_ok-suspects.suspects.items c.in_ok-bad.bad c.requires.kind c.requires.singles c.requires.choices c.in_ok-suspects.ensures
     (c.in_ok-bad.ensures ∙ ap (flat_map (bad_entry c.args.judge.now c.args.singles.now c.args.kind)) c.as_slice.ensures.value)

@@ -1,20 +1,19 @@
--- A solver of a book's clauses is one for any choice of conflicts: without goals nothing follows but negative literals, and each conflict
+-- A solver of a book is one of each book with the same clauses, whichever packages conflict: without goals nothing follows but negative literals, and each conflict
 -- asks for two positive ones.
-use Rattle.std.proofs.Common.{◌≡◌, ℕ, ◌+◌, Bool, true, false, not, ◌&&◌, ◌||◌, List, [], inl, inr, length, get_or, refl, sym, ap, subst, ◌∙◌, arith, map}
+use Rattle.std.proofs.Common.{◌≡◌, ℕ, ◌+◌, Bool, true, false, not, ◌&&◌, ◌||◌, List, [], inl, inr, length, get_or, refl, sym, ap, subst, ◌∙◌, arith}
 use Rattle.std.proofs.{lemmas.Bool.{and_parts, and_from, or_cases}, lemmas.List.Elements.{All-contains, All-append, All-nil, Contains-get_or}}
 use Rattle.std.specs.Prelude.{Contains}
 use Rattle.listed.proofs.Lists.{contains_in, in_contains, all_at, In_append_left}
-use Rattle.clause_pool.specs.Interned.{Interned, row_at}
-use Rattle.row_book.specs.{Book.{listed_for, lists_of_pairs, repository_of, AreConflicts, PairsFit, Sound}, declared.book.Book.{Book}}
+use Rattle.clause_pool.specs.Interned.{Interned}
+use Rattle.row_book.specs.{Book.{listed_for, repository_of, Sound}, Lent.{repository_in}, Needs.{NeedsFit}, Repository.{Repository}, declared.book.Book.{Book}}
+use Rattle.row_book.specs.declared.lent_book.LentBook.{LentBook}
 use Rattle.listed.specs.Lists.{In, here, there}
-use Rattle.row_book.proofs.Pairs.{length_pairs, pairs_conflict}
 use Rattle.search_terms.specs.{declared.literals.Literal.{Literal}, Closure.{literal, negation, is_same, forces, Clashes, InClosure, IsUnitClosed}}
-use Rattle.search_terms.specs.{Marks.{IsWithin}, Form.{conflict_sentence, owned_sentences}}
+use Rattle.search_terms.specs.{Marks.{IsWithin}, Form.{clause_sentence, conflict_sentence, owned_sentences}}
 use Rattle.search_terms.proofs.{Forms.{from_owned_sentences}, Models.{same-true}, Ranges.{rows_long}, Sets.{closed_append, forces_mono}}
 use Rattle.clause_solver.specs.{Engine.{whole_form}, Levels.{CalmAt, IsAt}, Levels.IsLayered.{at_root}, Marking.{set_of_trail}, Nodes.{HaveNegative}}
 use Rattle.clause_solver.specs.{Solvers.{AreApart, IsReady}, declared.solver.Solver.{Solver}}
 use Rattle.clause_solver.proofs.{Calm.{calm_of, closure_closed}, Preparing.{apart_of, engine_of, own_negative}, Running.{closed_part}}
-use Rattle.explain_core.specs.Solving.{SolvesAny}
 
 -- the negative literals
 abbrev negatives : Literal → Bool
@@ -127,23 +126,27 @@ module _ (own : List (List Literal)) (negative : HaveNegative own) where
     at_new true trail w = absurd (no_clash w.0)
     at_new false trail w = at_root refl (calm_new trail (calm_of (with_conflicts old) [] [] trail w))
 
--- the solver that was made for the book
-pub solves_any : (pool : Interned) (book : Book) (solver : Solver) → Sound pool book → IsReady (repository_of pool book) solver → SolvesAny pool book solver
-solves_any pool book solver sound ready = record {
-  sound = sound;
-  ready = λ pairs fit.
-      let size : ℕ = length (map (row_at pool) book.rows) in
-      let long : size ≡ length book.rows = rows_long pool book.rows in
-      let own : List (List Literal) = solver.own.items in
-      let table : List (List ℕ) = lists_of_pairs pairs size in
-      let fit_size : PairsFit pairs size = subst (λ n. PairsFit pairs n) (sym long) fit in
-      let conflicts : AreConflicts table = pairs_conflict pairs size fit_size in
-      record {
-        size = ready.size;
-        sentences = ready.sentences;
-        engine = engine_of pool book.rows table solver.classes own solver.uses.items sound.rows conflicts (length_pairs pairs size ∙ long) (ready.size ∙ long) ready.sentences ready.engine.table;
-        trail = ready.trail;
-        base = at_new own (own_negative (map (row_at pool) book.rows) own ready.sentences) book.conflicts table (apart_of book.conflicts sound.conflicts) (apart_of table conflicts)
-            solver.dead solver.base.1 ready.base;
-      };
-}
+-- so the solver of a book is one of each other book with the same clauses
+pub ready_for : (pool : Interned) (book : Book) (R : Repository) (solver : Solver) → Sound pool book → AreApart R.conflicts → (repository_of pool book).clauses ≡ R.clauses → IsReady R solver → IsReady (repository_of pool book) solver
+ready_for pool book R solver sound apart same ready =
+    let own : List (List Literal) = solver.own.items in
+    let size : solver.classes ≡ length (repository_of pool book).clauses = ready.size ∙ ap length (sym same) in
+    let sentences : own ≡ owned_sentences clause_sentence 0 (repository_of pool book).clauses = ready.sentences ∙ ap (owned_sentences clause_sentence 0) (sym same) in
+    record {
+      size = size;
+      sentences = sentences;
+      engine = engine_of pool book.rows book.conflicts solver.classes own solver.uses.items sound.rows sound.conflicts book.paired (size ∙ rows_long pool book.rows) sentences ready.engine.table;
+      trail = ready.trail;
+      base = at_new own (own_negative R.clauses own ready.sentences) R.conflicts book.conflicts apart (apart_of book.conflicts sound.conflicts) solver.dead solver.base.1 ready.base;
+    }
+
+pub ready_in : (own asked : LentBook) (R : Repository) (solver : Solver) → repository_in own ≡ R → (repository_in asked).clauses ≡ R.clauses → IsReady (repository_in own) solver → IsReady (repository_in asked) solver
+ready_in own asked R solver is same ready =
+    ready_for asked.pool.now asked.book.now (repository_in own) solver asked.sound (apart_of own.book.now.conflicts own.sound.conflicts) (same ∙ ap (λ S. S.clauses) (sym is)) ready
+
+-- and goals that fit the clauses fit that book
+pub fit_in : (asked : LentBook) (R : Repository) (goals : List (List ℕ)) → (repository_in asked).clauses ≡ R.clauses → NeedsFit (length R.clauses) goals → NeedsFit (length asked.book.now.rows) goals
+fit_in asked R goals same fit = subst (λ n. NeedsFit n goals) (sym (ap length same) ∙ rows_long asked.pool.now asked.book.now.rows) fit
+
+pub fit_clauses : (pool : Interned) (book : Book) (R : Repository) (goals : List (List ℕ)) → R ≡ repository_of pool book → NeedsFit (length book.rows) goals → NeedsFit (length R.clauses) goals
+fit_clauses pool book R goals is fit = subst (λ n. NeedsFit n goals) (sym (ap (λ S. length S.clauses) is ∙ rows_long pool book.rows)) fit

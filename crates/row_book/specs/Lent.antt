@@ -1,0 +1,6 @@
+-- Books that are lent with their pools.
+use Rattle.row_book.specs.{Book.{repository_of}, Repository.{Repository}, declared.lent_book.LentBook.{LentBook}}
+
+-- the repository of a lent book
+abbrev pub repository_in : LentBook → Repository
+repository_in lent = repository_of lent.pool.now lent.book.now

@@ -3,7 +3,7 @@ use Rattle.std.proofs.Common.{◌≡◌, ℕ, zero, suc, ◌<◌, ◌≤◌, ◌
 use Rattle.std.proofs.{lemmas.Bool.{cases_eq, cases_lt, both_ways}, lemmas.List.{map-append}}
 use Rattle.std.specs.{Prelude.{if◌then◌else◌}, Option.{option_map}}
 use Rattle.clause_pool.specs.Interned.{Interned, IsPool, Kept}
-use Rattle.clause_pool.proofs.Interned.{kept_same}
+use Rattle.clause_pool.proofs.Interned.{kept_along, kept_same}
 use Rattle.clause_flatten.specs.declared.error.FlatError.{FlatError}
 use Rattle.clause_flatten.specs.declared.error.FlatError.TheVariants as faults
 use Rattle.clause_flatten.specs.Refusals.{OnLimit}
@@ -19,7 +19,8 @@ use Rattle.row_book.proofs.Repositories.{of_packages}
 use Rattle.listed.proofs.Lists.{In_append_cases, In_cases, In_none}
 use Rattle.class_merge.specs.Classes.{class_in}
 use Rattle.class_merge.proofs.MergedRows.{class_at}
-use Rattle.kernel_rounds.specs.{Extracting.{HasStepsBefore, IsMidway, IsReached, OnRoundLimit, refusal}, Moving.{HasSteps}}
+use Rattle.kernel_rounds.specs.{declared.advancing.Progress.{Progress}, declared.rounding.Reduced.{Reduced}, Moving.{trail_rows, HasSteps}}
+use Rattle.kernel_rounds.specs.Extracting.{HasStepsBefore, IsExtracted, IsMidway, IsReduced, OnRoundLimit, refusal}
 use Rattle.clause_flatten.proofs.TidyFlat.{flat_size}
 use Rattle.kernel_rounds.proofs.{Reached.{kernel_is_lem, repository_test, rounds_sound, same_from}, Classes.{class_within}}
 
@@ -101,83 +102,59 @@ sound_step old new is k (Flat before) s = sound_kept old new is k before s
 sound_step old new is k (Idle p clause added) s = tt
 sound_step old new is k (Merge class_of) s = tt
 
--- idle steps have no book
-idle_sound : (pool : Interned) (step : Step) (idle : IdleClause) → step_meaning pool step ≡ IdleStep idle → SoundStep pool step
-idle_sound pool (Flat before) idle e = absurd (let f : ⊥ = cc in f)
-idle_sound pool (Idle p clause added) idle e = tt
-idle_sound pool (Merge class_of) idle e = absurd (let f : ⊥ = cc in f)
+-- idle steps have no book, and tell the same in each pool
+pub record AreIdle (pool : Interned) (steps : List Step) (idles : List IdleClause) : Type 0 where
+  pub meaning : trail_meaning pool steps ≡ map IdleStep idles
+  pub sound : SoundSteps pool steps
+  pub rows : trail_rows steps ≡ []
 
-idles_sound : (pool : Interned) (steps : List Step) (idles : List IdleClause) → trail_meaning pool steps ≡ map IdleStep idles → SoundSteps pool steps
-idles_sound pool [] idles e step i = absurd (In_none i)
-idles_sound pool (x ∷ xs) [] e step i = absurd (let f : ⊥ = cc in f)
-idles_sound pool (x ∷ xs) (y ∷ ys) e step i =
-    elim (In_cases i) [
-      | inl s ↦ subst (SoundStep pool) (sym s) (idle_sound pool x y (let f : step_meaning pool x ≡ IdleStep y = cc in f))
-      | inr j ↦ idles_sound pool xs ys (let f : trail_meaning pool xs ≡ map IdleStep ys = cc in f) step j
-    ]
+pub idles_are : (from pool : Interned) (steps : List Step) (idles : List IdleClause) → trail_meaning from steps ≡ map IdleStep idles → AreIdle pool steps idles
+idles_are from pool [] idles e = record { meaning = e; sound = λ step i. absurd (In_none i); rows = refl }
+idles_are from pool (x ∷ xs) [] e = absurd (let f : ⊥ = cc in f)
+idles_are from pool (Flat before ∷ xs) (y ∷ ys) e = absurd (let f : ⊥ = cc in f)
+idles_are from pool (Merge class_of ∷ xs) (y ∷ ys) e = absurd (let f : ⊥ = cc in f)
+idles_are from pool (Idle p clause added ∷ xs) (y ∷ ys) e =
+    let more : AreIdle pool xs ys = idles_are from pool xs ys (let f : trail_meaning from xs ≡ map IdleStep ys = cc in f) in
+    record {
+      meaning = ap₂ (λ (a : RoundStep) (b : List RoundStep). a ∷ b) (let f : step_meaning pool (Idle p clause added) ≡ IdleStep y = cc in f) more.meaning;
+      sound = λ step i. elim (In_cases i) [ inl s ↦ subst (SoundStep pool) (sym s) tt | inr j ↦ more.sound step j ];
+      rows = more.rows;
+    }
 
--- and tell the same in any pool
-idle_told : (old new : Interned) (step : Step) (idle : IdleClause) → step_meaning new step ≡ IdleStep idle → step_meaning old step ≡ IdleStep idle
-idle_told old new (Flat before) idle e = absurd (let f : ⊥ = cc in f)
-idle_told old new (Idle p clause added) idle e = e
-idle_told old new (Merge class_of) idle e = absurd (let f : ⊥ = cc in f)
+-- steps that are sound, and tell this
+pub record AreTold (pool : Interned) (steps : List Step) (told : List RoundStep) : Type 0 where
+  pub meaning : trail_meaning pool steps ≡ told
+  pub sound : SoundSteps pool steps
 
-idles_told : (old new : Interned) (steps : List Step) (idles : List IdleClause) → trail_meaning new steps ≡ map IdleStep idles → trail_meaning old steps ≡ map IdleStep idles
-idles_told old new [] idles e = e
-idles_told old new (x ∷ xs) [] e = absurd (let f : ⊥ = cc in f)
-idles_told old new (x ∷ xs) (y ∷ ys) e =
-    ap₂ (λ (a : RoundStep) (b : List RoundStep). a ∷ b) (idle_told old new x y (let f : step_meaning new x ≡ IdleStep y = cc in f))
-    (idles_told old new xs ys (let f : trail_meaning new xs ≡ map IdleStep ys = cc in f))
-
--- what a trail tells after one more round
-pub record IsNext (limit : ℕ) (hold : Bool) (old new : Interned) (book : Book) (past steps : List Step) (changed : Bool) : Type 0 where
-  pub meaning : trail_meaning new steps ≡ trail_meaning old past ++ (if changed then round_steps limit hold (repository_of old book) else [])
-  pub sound : SoundSteps new steps
-
-pub round_told : (limit : ℕ) (hold : Bool) → (old new : Interned) (book : Book) (next : List ℕ) (past idle steps : List Step) (changed : Bool) → IsPool old → Kept old new → Sound old book → SoundSteps old past →
-    next ≡ class_list (flat limit hold (repository_of old book)) → trail_meaning new idle ≡ map IdleStep (idle_steps (quotient (flat limit hold (repository_of old book)))) →
-    steps ≡ (if changed then (past ++ (Flat book ∷ (Merge next ∷ []))) ++ idle else past) → IsNext limit hold old new book past steps changed
-round_told limit hold old new book next past idle steps true is k s f c d h =
-    let own : List Step = Flat book ∷ (Merge next ∷ []) in
+-- the steps of one more round, whose idle steps tell the same in each pool
+pub round_told : (limit : ℕ) (hold : Bool) (R : Repository) (from pool : Interned) (before : Book) (past steps : List Step) (told : List RoundStep) (made : Reduced) → AreTold pool past told →
+    IsReduced limit hold R from made → repository_of pool before ≡ R → Sound pool before → steps ≡ past ++ (Flat before ∷ (Merge made.class_of ∷ made.idle)) → AreTold pool steps (told ++ round_steps limit hold R)
+round_told limit hold R from pool before past steps told made h r e s g =
+    let idle : AreIdle pool made.idle (idle_steps (quotient (flat limit hold R))) = idles_are from pool made.idle (idle_steps (quotient (flat limit hold R))) r.idle in
     record {
       meaning =
-          ap (trail_meaning new) h
-          ∙ map-append (step_meaning new) (past ++ own) idle
-          ∙ ap (λ z. z ++ trail_meaning new idle) (map-append (step_meaning new) past own)
-          ∙ append_assoc (trail_meaning new past) (trail_meaning new own) (trail_meaning new idle)
-          ∙ ap₂ (λ x y. x ++ y) (told_kept old new is k past f)
-          (ap₂ (λ (x : RoundStep) (y : List RoundStep). x ∷ y) (ap FlatStep (repository_kept old new is k book s))
-          (ap₂ (λ (x : RoundStep) (y : List RoundStep). x ∷ y) (ap MergeStep c) d));
-      sound = λ step j. elim (In_append_cases (past ++ own) idle step (subst (λ z. In step z) h j)) [
-        | inl u ↦ elim (In_append_cases past own step u) [
-          | inl v ↦ sound_step old new is k step (f step v)
+          ap (trail_meaning pool) g
+          ∙ map-append (step_meaning pool) past (Flat before ∷ (Merge made.class_of ∷ made.idle))
+          ∙ ap₂ (λ (x y : List RoundStep). x ++ y) h.meaning
+          (ap₂ (λ (x : RoundStep) (y : List RoundStep). x ∷ y) (ap FlatStep e) (ap₂ (λ (x : RoundStep) (y : List RoundStep). x ∷ y) (ap MergeStep r.class_of) idle.meaning));
+      sound = λ step j. elim (In_append_cases past (Flat before ∷ (Merge made.class_of ∷ made.idle)) step (subst (λ z. In step z) g j)) [
+        | inl u ↦ h.sound step u
+        | inr u ↦ elim (In_cases u) [
+          | inl v ↦ subst (SoundStep pool) (sym v) s
           | inr v ↦ elim (In_cases v) [
-            | inl e ↦ subst (SoundStep new) (sym e) (sound_kept old new is k book s)
-            | inr w ↦ elim (In_cases w) [ inl e ↦ subst (SoundStep new) (sym e) tt | inr x ↦ absurd (In_none x) ]
+            | inl w ↦ subst (SoundStep pool) (sym w) tt
+            | inr w ↦ idle.sound step w
           ]
         ]
-        | inr u ↦ idles_sound new idle (idle_steps (quotient (flat limit hold (repository_of old book)))) d step u
       ];
     }
-round_told limit hold old new book next past idle steps false is k s f c d h = record {
-  meaning = ap (trail_meaning new) h ∙ told_kept old new is k past f ∙ sym (append-nil (trail_meaning old past));
-  sound = λ step j. sound_step old new is k step (f step (subst (λ z. In step z) h j));
-}
 
--- what the steps of the first round tell of the pool as it was before the round
-pub first_told : (limit : ℕ) (hold : Bool) → (old new : Interned) (book before : Book) (next : List ℕ) (past idle steps : List Step) (changed : Bool) → IsPool old → IsSameBook old book old before → Sound old book → past ≡ [] →
-    next ≡ class_list (flat limit hold (repository_of old book)) → trail_meaning new idle ≡ map IdleStep (idle_steps (quotient (flat limit hold (repository_of old book)))) →
-    steps ≡ (if changed then (past ++ (Flat before ∷ (Merge next ∷ []))) ++ idle else past) → IsNext limit hold old old book [] steps changed
-first_told limit hold old new book before next past idle steps changed is same s none c d h =
-    let R : Repository = repository_of old book in
-    let w : IsNext limit hold old old before past steps changed =
-    round_told limit hold old old before next past idle steps changed is (kept_same old) (same.sound s) (λ step i. absurd (In_none (subst (λ z. In step z) none i)))
-    (c ∙ ap (λ F. class_list (flat limit hold F)) (sym same.repository))
-    (idles_told old new idle (idle_steps (quotient (flat limit hold R))) d ∙ ap (λ F. map IdleStep (idle_steps (quotient (flat limit hold F)))) (sym same.repository)) h in
-    record {
-      meaning = w.meaning ∙ ap₂ (λ xs F. trail_meaning old xs ++ (if changed then round_steps limit hold F else [])) none same.repository;
-      sound = w.sound;
-    }
+pub changes_told : (limit : ℕ) (hold : Bool) (R : Repository) (from pool : Interned) (before : Book) (past steps : List Step) (told : List RoundStep) (made : Reduced) (changed : Bool) → AreTold pool past told →
+    IsReduced limit hold R from made → repository_of pool before ≡ R → Sound pool before → steps ≡ (if changed then past ++ (Flat before ∷ (Merge made.class_of ∷ made.idle)) else past) →
+    AreTold pool steps (told ++ (if changed then round_steps limit hold R else []))
+changes_told limit hold R from pool before past steps told made true h r e s g = round_told limit hold R from pool before past steps told made h r e s g
+changes_told limit hold R from pool before past steps told made false h r e s g =
+    record { meaning = ap (trail_meaning pool) g ∙ h.meaning ∙ sym (append-nil told); sound = subst (SoundSteps pool) (sym g) h.sound }
 
 pub map_map : (f g : ℕ → ℕ) (xs : List ℕ) → map f (map g xs) ≡ map (λ x. f (g x)) xs
 map_map f g [] = refl
@@ -194,25 +171,24 @@ classes_next limit hold R s i classes next made e f g =
     ∙ sym (class_last limit hold i R p))
 
 -- one round more
-pub midway_more : (limit : ℕ) (hold : Bool) (R : Repository) (start pool grown old new : Interned) (book made : Book) (classes next compose : List ℕ) (steps more : List Step) (number after : ℕ) →
-    SoundRepository R → (m : IsMidway R limit hold start pool old book classes steps number) →
-    repository_of new made ≡ round limit hold (repository_of old book) → next ≡ class_list (flat limit hold (repository_of old book)) →
-    HasSteps start grown more (steps_after limit hold R m.index ++ round_steps limit hold (repository_of old book)) →
-    Sound new made → passes limit hold (repository_of old book) ≡ None → (round limit hold (repository_of old book) ≡ repository_of old book → ⊥) →
-    compose ≡ map (class_in next) classes → after ≡ min (number + 1) 4294967295 →
-    IsMidway R limit hold start grown new made compose more after
-midway_more limit hold R start pool grown old new book made classes next compose steps more number after s m r c d sound pass f g a =
+pub midway_more : (limit : ℕ) (hold : Bool) (R : Repository) (start pool grown old work new : Interned) (now next : Progress) (made : Reduced) →
+    SoundRepository R → (m : IsMidway R limit hold start pool old now) → IsReduced limit hold (repository_of old now.book) work made →
+    (round limit hold (repository_of old now.book) ≡ repository_of old now.book → ⊥) → IsSameBook work made.book new next.book →
+    HasSteps start grown next.steps (steps_after limit hold R m.index ++ round_steps limit hold (repository_of old now.book)) →
+    next.class_of.items ≡ map (class_in made.class_of) now.class_of.items → next.number ≡ min (now.number + 1) 4294967295 →
+    IsMidway R limit hold start grown new next
+midway_more limit hold R start pool grown old work new now next made s m r f same d g a =
     let i : ℕ = m.index in
     record {
       index = suc i;
-      is = r ∙ ap (round limit hold) m.is ∙ sym (rounds_last limit hold i R);
-      sound = sound;
-      class_of = classes_next limit hold R s i classes next compose m.class_of (c ∙ ap (λ z. class_list (flat limit hold z)) m.is) g;
-      steps = subst (λ told. HasSteps start grown more told) (ap (λ z. steps_after limit hold R i ++ round_steps limit hold z) m.is ∙ sym (steps_last limit hold i R)) d;
+      is = same.repository ∙ r.is ∙ ap (round limit hold) m.is ∙ sym (rounds_last limit hold i R);
+      sound = same.sound r.sound;
+      class_of = classes_next limit hold R s i now.class_of.items made.class_of next.class_of.items m.class_of (r.class_of ∙ ap (λ z. class_list (flat limit hold z)) m.is) g;
+      steps = subst (λ told. HasSteps start grown next.steps told) (ap (λ z. steps_after limit hold R i ++ round_steps limit hold z) m.is ∙ sym (steps_last limit hold i R)) d;
       counted = a ∙ ap (λ z. min (z + 1) 4294967295) m.counted ∙ omega arith;
       passed = λ j l. elim (cases_lt j i) [
         | inl u ↦ m.passed j u
-        | inr u ↦ let e : j ≡ i = omega arith in ap (λ z. passes limit hold (rounds limit hold R z)) e ∙ ap (λ z. passes limit hold z) (sym m.is) ∙ pass
+        | inr u ↦ let e : j ≡ i = omega arith in ap (λ z. passes limit hold (rounds limit hold R z)) e ∙ ap (λ z. passes limit hold z) (sym m.is) ∙ r.within
       ];
       changed = λ j l. elim (cases_lt j i) [
         | inl u ↦ m.changed j u
@@ -222,72 +198,69 @@ midway_more limit hold R start pool grown old new book made classes next compose
     }
 
 -- and the end
-pub midway_end : (limit : ℕ) (hold : Bool) (R : Repository) (start pool old new : Interned) (book made : Book) (classes held : List ℕ) (steps : List Step) (number : ℕ) →
-    SoundRepository R → IsMidway R limit hold start pool old book classes steps number →
-    repository_of new made ≡ round limit hold (repository_of old book) → round limit hold (repository_of old book) ≡ repository_of old book →
-    Sound new made → passes limit hold (repository_of old book) ≡ None → held ≡ held_of limit hold (repository_of old book) →
-    IsReached R limit hold start pool new made classes held steps
-midway_end limit hold R start pool old new book made classes held steps number s m r fixed sound pass h =
+pub midway_end : (limit : ℕ) (hold : Bool) (R : Repository) (start pool grown old work : Interned) (now : Progress) (made : Reduced) (book : Book) →
+    SoundRepository R → IsPool pool → IsMidway R limit hold start pool old now → IsReduced limit hold (repository_of old now.book) work made →
+    round limit hold (repository_of old now.book) ≡ repository_of old now.book → IsSameBook work made.book grown book → Kept pool grown →
+    IsExtracted R limit hold start grown book now.class_of.items made.held now.steps
+midway_end limit hold R start pool grown old work now made book s is m r fixed same k =
     let i : ℕ = m.index in
     let at : i ≡ round_count limit hold R = reached limit hold R s i m.changed (subst (λ z. round limit hold z ≡ z) m.is fixed) in
     record {
-      is = r ∙ fixed ∙ m.is ∙ ap (rounds limit hold R) at;
-      sound = sound;
+      is = same.repository ∙ r.is ∙ fixed ∙ m.is ∙ ap (rounds limit hold R) at;
       class_of = m.class_of ∙ ap (λ z. map (class_after limit hold R z) (packages R)) at;
-      held = h ∙ ap (held_of limit hold) (m.is ∙ ap (rounds limit hold R) at);
-      steps = subst (λ z. HasSteps start pool steps (steps_after limit hold R z)) at m.steps;
-      within = none_passed limit hold R s i at m.passed (ap (λ z. passes limit hold z) (sym m.is) ∙ pass);
+      held = r.held ∙ ap (held_of limit hold) (m.is ∙ ap (rounds limit hold R) at);
+      steps = told_kept pool grown is k now.steps m.steps.books ∙ m.steps.meaning ∙ ap (steps_after limit hold R) at;
+      sound = same.sound r.sound;
+      books = λ step j. sound_step pool grown is k step (m.steps.books step j);
+      within = none_passed limit hold R s i at m.passed (ap (λ z. passes limit hold z) (sym m.is) ∙ r.within);
+      kept = kept_along start pool grown m.steps.kept k;
     }
 
 place_map : (f : ℕ → ℕ) (test : ℕ → Bool) (xs : List ℕ) → place_of test (map f xs) ≡ place_of (λ x. test (f x)) xs
 place_map f test [] = refl
 place_map f test (x ∷ xs) = ap (λ z. cond (test (f x)) 0 (suc z)) (place_map f test xs)
 
-pub midway_refused : (limit : ℕ) (hold : Bool) (R : Repository) (start pool work : Interned) (book : Book) (classes : List ℕ) (steps : List Step) (number : ℕ) (fault : FlatError) →
-    SoundRepository R → IsMidway R limit hold start pool work book classes steps number → OnLimit (λ passed. passes limit hold (repository_of work book) ≡ Some passed) fault →
-    OnRoundLimit (λ passed. limit_at limit hold R ≡ Some passed) (refusal number classes fault)
-midway_refused limit hold R start pool work book classes steps number (faults.Limit gone p count) s m e =
+pub midway_refused : (limit : ℕ) (hold : Bool) (R : Repository) (start pool work : Interned) (now : Progress) (fault : FlatError) →
+    SoundRepository R → IsMidway R limit hold start pool work now → OnLimit (λ passed. passes limit hold (repository_of work now.book) ≡ Some passed) fault →
+    OnRoundLimit (λ passed. limit_at limit hold R ≡ Some passed) (refusal now.number now.class_of.items fault)
+midway_refused limit hold R start pool work now (faults.Limit gone p count) s m e =
     let w : Passed = record { gone = gone; over = p; count = count } in
     one_passed limit hold R s m.index w (changing limit hold R s m.index m.changed) m.passed (ap (λ z. passes limit hold z) (sym m.is) ∙ e)
     ∙ ap Some (ap₂ (λ (n q : ℕ). record { number = n; gone = gone; over = q; count = count }) (sym m.counted)
     (sym (place_map (class_after limit hold R m.index) (λ k. eqb k p) (packages R)) ∙ ap (place_of (λ k. eqb k p)) (sym m.class_of)))
-midway_refused limit hold R start pool work book classes steps number faults.Memory s m e = tt
+midway_refused limit hold R start pool work now faults.Memory s m e = tt
 
 -- where a round is refused, the pool has the steps of the rounds before it
-pub midway_gained : (limit : ℕ) (hold : Bool) (R : Repository) (start pool work : Interned) (book : Book) (classes : List ℕ) (steps : List Step) (number : ℕ) (fault : FlatError) →
-    IsMidway R limit hold start pool work book classes steps number → OnLimit (λ passed. passes limit hold (repository_of work book) ≡ Some passed) fault →
-    OnRoundLimit (λ _. HasStepsBefore R limit hold start pool) (refusal number classes fault)
-midway_gained limit hold R start pool work book classes steps number (faults.Limit gone p count) m e = record {
+pub midway_gained : (limit : ℕ) (hold : Bool) (R : Repository) (start pool work : Interned) (now : Progress) (fault : FlatError) →
+    IsMidway R limit hold start pool work now → OnLimit (λ passed. passes limit hold (repository_of work now.book) ≡ Some passed) fault →
+    OnRoundLimit (λ _. HasStepsBefore R limit hold start pool) (refusal now.number now.class_of.items fault)
+midway_gained limit hold R start pool work now (faults.Limit gone p count) m e = record {
   index = m.index;
   within = m.passed;
   over = λ none. some_is_none (sym e ∙ ap (passes limit hold) m.is ∙ none);
-  steps = steps;
+  steps = now.steps;
   gained = m.steps;
 }
   where
     some_is_none : {w : Passed} → Some w ≡ None → ⊥
     some_is_none s = cc
-midway_gained limit hold R start pool work book classes steps number faults.Memory m e = tt
-
--- steps whose books are already of the pool
-pub steps_of_start : (pool : Interned) (steps : List Step) (told : List RoundStep) → trail_meaning pool steps ≡ told → SoundSteps pool steps → HasSteps pool pool steps told
-steps_of_start pool steps told e s = record {
-  meaning = e;
-  books = s;
-  only = record { rows = λ id low high. absurd (omega arith); clauses = λ id low high. absurd (omega arith) };
-  kept = kept_same pool;
-}
+midway_gained limit hold R start pool work now faults.Memory m e = tt
 
 -- before any round
-unfoldable pub midway_none : (limit : ℕ) (hold : Bool) (pool : Interned) (book : Book) (classes : List ℕ) (size : ℕ) → Sound pool book → size ≡ length book.rows → classes ≡ numbers size 0 →
-    IsMidway (repository_of pool book) limit hold pool pool pool book classes [] 1
-midway_none limit hold pool book classes size s g h = record {
+pub midway_none : (limit : ℕ) (hold : Bool) (pool : Interned) (book : Book) (now : Progress) → IsSameBook pool book pool now.book → Sound pool book → now.class_of.items ≡ numbers (length book.rows) 0 →
+    now.steps ≡ [] → now.number ≡ 1 → IsMidway (repository_of pool book) limit hold pool pool pool now
+midway_none limit hold pool book now same s h none one = record {
   index = 0;
-  is = refl;
-  sound = s;
-  class_of = h ∙ ap (λ n. numbers n 0) (g ∙ sym (book_size pool book)) ∙ sym (same_list (packages (repository_of pool book)));
-  steps = steps_of_start pool [] [] refl (λ step i. absurd (In_none i));
-  counted = refl;
+  is = same.repository;
+  sound = same.sound s;
+  class_of = h ∙ ap (λ n. numbers n 0) (sym (book_size pool book)) ∙ sym (same_list (packages (repository_of pool book)));
+  steps = subst (λ steps. HasSteps pool pool steps []) (sym none) (record {
+    meaning = refl;
+    books = λ step i. absurd (In_none i);
+    only = record { rows = λ id low high. absurd (omega arith); clauses = λ id low high. absurd (omega arith) };
+    kept = kept_same pool;
+  });
+  counted = one;
   passed = λ j l. absurd (omega arith);
   changed = λ j l. absurd (omega arith);
 }
@@ -296,22 +269,12 @@ midway_none limit hold pool book classes size s g h = record {
     same_list [] = refl
     same_list (x ∷ xs) = ap (λ z. x ∷ z) (same_list xs)
 
--- where the first round passes the limit, the pool gains nothing
-pub none_before : (limit : ℕ) (hold : Bool) (R : Repository) (pool : Interned) → (passes limit hold R ≡ None → ⊥) → HasStepsBefore R limit hold pool pool
-none_before limit hold R pool over = record {
-  index = 0;
-  within = λ j l. absurd (omega arith);
-  over = over;
-  steps = [];
-  gained = steps_of_start pool [] [] refl (λ step i. absurd (In_none i));
-}
-
 -- the test of books tells whether a round changes nothing
-told_same : (limit : ℕ) (hold : Bool) → (old new : Interned) (book made : Book) → IsPool old → Kept old new → Sound old book → repository_of new made ≡ round limit hold (repository_of old book) →
+pub told_same : (limit : ℕ) (hold : Bool) → (old new : Interned) (book made : Book) → IsPool old → Kept old new → Sound old book → repository_of new made ≡ round limit hold (repository_of old book) →
     is_same_repository (repository_of new book) (repository_of new made) ≡ true → round limit hold (repository_of old book) ≡ repository_of old book
 told_same limit hold old new book made is k s r t = sym r ∙ sym (same_from (repository_of new book) (repository_of new made) t) ∙ repository_kept old new is k book s
 
-told_other : (limit : ℕ) (hold : Bool) → (old new : Interned) (book made : Book) → IsPool old → Kept old new → Sound old book → repository_of new made ≡ round limit hold (repository_of old book) →
+pub told_other : (limit : ℕ) (hold : Bool) → (old new : Interned) (book made : Book) → IsPool old → Kept old new → Sound old book → repository_of new made ≡ round limit hold (repository_of old book) →
     is_same_repository (repository_of new book) (repository_of new made) ≡ false → round limit hold (repository_of old book) ≡ repository_of old book → ⊥
 told_other limit hold old new book made is k s r t e =
     both_ways (is_same_repository (repository_of new book) (repository_of new made)) t
@@ -322,6 +285,5 @@ pub round_changes : (limit : ℕ) (hold : Bool) → (old new : Interned) (book m
 round_changes limit hold old new book made true is k s r e = (λ _. told_same limit hold old new book made is k s r (sym e), λ _. refl)
 round_changes limit hold old new book made false is k s r e = (λ f. absurd (let n : ⊥ = cc in n), λ f. absurd (told_other limit hold old new book made is k s r (sym e) f))
 
-pub midway_size : (limit : ℕ) (hold : Bool) (R : Repository) (start pool work : Interned) (book : Book) (classes : List ℕ) (steps : List Step) (number : ℕ) →
-    IsMidway R limit hold start pool work book classes steps number → length classes ≡ length R.clauses
-midway_size limit hold R start pool work book classes steps number m = ap length m.class_of ∙ length_numbers (class_after limit hold R m.index) (length R.clauses) 0
+pub midway_size : (limit : ℕ) (hold : Bool) (R : Repository) (start pool work : Interned) (now : Progress) → IsMidway R limit hold start pool work now → length now.class_of.items ≡ length R.clauses
+midway_size limit hold R start pool work now m = ap length m.class_of ∙ length_numbers (class_after limit hold R m.index) (length R.clauses) 0

@@ -5,12 +5,14 @@ use Rattle.clause_pool.specs.{Interned.{Interned, IsPool, Kept, clause_at, ids_a
 use Rattle.clause_pool.proofs.Interned.{kept_along}
 use Rattle.row_book.proofs.{Compared.{row_once}, Repositories.{repository_same}}
 use Rattle.row_book.specs.{declared.book.Book.{Book}, declared.trail.Step.{Step}, declared.trail.Step.TheVariants.{Flat, Idle, Merge}}
-use Rattle.row_book.specs.{Book.{repository_of, AddsOnly, AreConflicts, IsSameBook, RowsFit, Sound}, Repository.{Repository}}
-use Rattle.row_book.specs.{Rounds.{RoundStep, FlatStep, IdleStep, MergeStep}, Trail.{SoundStep, SoundSteps, step_meaning, trail_meaning}}
+use Rattle.row_book.specs.{Book.{repository_of, AddsOnly, AreConflicts, IsSameBook, RowsFit, Sound}, Repository.{Repository}, Flattening.{flat}}
+use Rattle.row_book.specs.{Merging.{quotient}, Pruning.{idle_steps}, Rounds.{round_steps, RoundStep, FlatStep, IdleStep, MergeStep}}
+use Rattle.row_book.specs.Trail.{SoundStep, SoundSteps, step_meaning, trail_meaning}
 use Rattle.listed.specs.Lists.{In, here, there}
 use Rattle.listed.proofs.Lists.{In_append_cases, In_append_left, In_append_right, In_at, In_cases, In_map, In_map_cases, In_none}
-use Rattle.kernel_rounds.specs.{Extracting.{IsExtracted, IsReached}, Moving.{live_rows, step_rows, trail_rows, AreSameSteps, HasOnly, HasSteps, IsSameStep}}
-use Rattle.kernel_rounds.proofs.Midways.{sound_step, told_kept}
+use Rattle.kernel_rounds.specs.{declared.rounding.Reduced.{Reduced}, Extracting.{IsReduced}}
+use Rattle.kernel_rounds.specs.Moving.{live_rows, step_rows, trail_rows, AreSameSteps, HasOnly, HasSteps, IsSameStep}
+use Rattle.kernel_rounds.proofs.Midways.{idles_are, round_told, sound_step, told_kept, AreTold}
 
 -- a copy of a book is the same book in a copy of its pool
 pub same_copy : (pool own : Interned) (book copied : Book) → own ≡ pool → copied.rows ≡ book.rows → copied.conflicts ≡ book.conflicts → IsSameBook pool book own copied
@@ -72,15 +74,6 @@ trail_told : (pool : Interned) (steps : List Step) → map (row_at pool) (trail_
 unfolding trail_clauses
 trail_told pool [] = refl
 trail_told pool (x ∷ xs) = map-append (row_at pool) (step_rows x) (trail_rows xs) ∙ ap₂ (λ y ys. y ++ ys) (step_told pool x) (trail_told pool xs)
-
--- no step tells nothing
-none_told : (pool : Interned) (steps : List Step) → trail_meaning pool steps ≡ [] → steps ≡ []
-none_told pool [] e = refl
-none_told pool (x ∷ xs) e = absurd (let f : ⊥ = cc in f)
-
--- the rows of a book alone, where no step came with it
-pub only_book : (old new : Interned) (book : Book) (steps : List Step) → HasOnly new (live_rows book steps) → AreSameSteps old [] new steps → HasOnly new book.rows
-only_book old new book steps only same = subst (HasOnly new) (ap (live_rows book) (none_told new steps same.meaning) ∙ append-nil book.rows) only
 
 pub live_same : (old new : Interned) (book moved : Book) (steps more : List Step) → repository_of new moved ≡ repository_of old book → trail_meaning new more ≡ trail_meaning old steps →
     map (row_at new) (live_rows moved more) ≡ map (row_at old) (live_rows book steps)
@@ -147,58 +140,25 @@ adds_both a b c xs ys all p q k within e =
       ];
     }
 
--- some of the steps were carried, and nothing else came into the pool
-pub record CarriedSteps (from start pool : Interned) (steps made : List Step) : Type 0 where
-  pub kept : Kept start pool
-  pub same : AreSameSteps from steps pool made
-  pub only : AddsOnly start pool (trail_rows made)
-
-pub carried_steps : (from start pool next : Interned) (steps all : List Step) (step moved : Step) (made more : List Step) → IsPool pool → SoundSteps from steps → CarriedSteps from start pool steps made →
-    IsSameStep from step next moved → AddsOnly pool next (step_rows moved) → Kept pool next → all ≡ steps ++ step ∷ [] → more ≡ made ++ moved ∷ [] → CarriedSteps from start next all more
-carried_steps from start pool next steps all step moved made more is s done one adds k a e =
-    let books : SoundSteps pool made = done.same.sound s in
+-- the steps of one more round, whose book has come into the pool
+pub steps_more_round : (limit : ℕ) (hold : Bool) (R : Repository) (start old new from : Interned) (before : Book) (past steps : List Step) (told : List RoundStep) (made : Reduced) → IsPool old → HasSteps start old past told →
+    IsReduced limit hold R from made → repository_of new before ≡ R → Sound new before → AddsOnly old new before.rows → Kept old new → steps ≡ past ++ (Flat before ∷ (Merge made.class_of ∷ made.idle)) →
+    HasSteps start new steps (told ++ round_steps limit hold R)
+steps_more_round limit hold R start old new from before past steps told made is h r e s adds k g =
+    let all : AreTold new steps (told ++ round_steps limit hold R) =
+    round_told limit hold R from new before past steps told made
+    (record { meaning = told_kept old new is k past h.books ∙ h.meaning; sound = λ step i. sound_step old new is k step (h.books step i) }) r e s g in
     record {
-      kept = kept_along start pool next done.kept k;
-      same =
-          steps_more from next steps all step moved made more
-          (record { meaning = told_kept pool next is k made books ∙ done.same.meaning; sound = λ f x i. sound_step pool next is k x (done.same.sound f x i) })
-          one a e;
+      meaning = all.meaning;
+      books = all.sound;
       only =
-          adds_both start pool next (trail_rows made) (step_rows moved) (trail_rows more) done.only adds k (steps_within pool made books)
-          (ap trail_rows e ∙ rows_append made (moved ∷ []) ∙ ap (λ z. trail_rows made ++ z) (append-nil (step_rows moved)));
+          adds_both start old new (trail_rows past) before.rows (trail_rows steps) h.only adds k (steps_within old past h.books)
+          (ap trail_rows g ∙ rows_append past (Flat before ∷ (Merge made.class_of ∷ made.idle))
+          ∙ ap (λ z. trail_rows past ++ (before.rows ++ z)) (idles_are from new made.idle (idle_steps (quotient (flat limit hold R))) r.idle).rows ∙ ap (λ z. trail_rows past ++ z) (append-nil before.rows));
+      kept = kept_along start old new h.kept k;
     }
 
--- steps behind others
-pub steps_behind : (start old new from : Interned) (steps round moved all : List Step) (told : List RoundStep) → IsPool old → HasSteps start old steps told → SoundSteps from round →
-    AreSameSteps from round new moved → AddsOnly old new (trail_rows moved) → Kept old new → all ≡ steps ++ moved → HasSteps start new all (told ++ trail_meaning from round)
-steps_behind start old new from steps round moved all told is h s same adds k e = record {
-  meaning =
-      ap (trail_meaning new) e ∙ map-append (step_meaning new) steps moved
-      ∙ ap₂ (λ (x y : List RoundStep). x ++ y) (told_kept old new is k steps h.books ∙ h.meaning) same.meaning;
-  books = λ step i. elim (In_append_cases steps moved step (subst (λ z. In step z) e i)) [
-    | inl j ↦ sound_step old new is k step (h.books step j)
-    | inr j ↦ same.sound s step j
-  ];
-  only =
-      adds_both start old new (trail_rows steps) (trail_rows moved) (trail_rows all) h.only adds k (steps_within old steps h.books)
-      (ap trail_rows e ∙ rows_append steps moved);
-  kept = kept_along start old new h.kept k;
-}
-
--- the kernel's book behind the steps
-pub extracted_behind : (limit : ℕ) (hold : Bool) (R : Repository) (start old new work : Interned) (book made : Book) (classes held : List ℕ) (steps : List Step) → IsPool old →
-    IsReached R limit hold start old work book classes held steps → IsSameBook work book new made → Kept old new → IsExtracted R limit hold start new made classes held steps
-extracted_behind limit hold R start old new work book made classes held steps is r same k = record {
-  is = same.repository ∙ r.is;
-  class_of = r.class_of;
-  held = r.held;
-  steps = told_kept old new is k steps r.steps.books ∙ r.steps.meaning;
-  sound = same.sound r.sound;
-  books = λ step i. sound_step old new is k step (r.steps.books step i);
-  within = r.within;
-  kept = kept_along start old new r.steps.kept k;
-}
-
+-- the kernel's book after the steps
 pub live_behind : (start old new : Interned) (made : Book) (steps : List Step) (told : List RoundStep) → HasSteps start old steps told → AddsOnly old new made.rows → Kept old new →
     AddsOnly start new (live_rows made steps)
 live_behind start old new made steps told h adds k =

@@ -1,53 +1,27 @@
-//! The rounds of an extraction, one after another, until one changes nothing.
-ghost use Rattle.std.specs.Prelude.{Bool, Some, ◌≡◌, ◌<◌, ◌+◌, ◌++◌, IfErr, IfOk, List, eqb, length, map, min, ℕ};
+//! From one round to the next.
+ghost use Rattle.std.specs.Prelude.{Bool, ◌≡◌, ◌<◌, IfOk, eqb, length, map, ℕ};
 ghost use Rattle.clause_pool.specs.Interned.{Interned, IsPool, Kept};
-ghost use Rattle.row_book.specs.{Book.{repository_of, Sound}, Merging.{place_of}, Repository.{Repository}, Rounds.{limit_at, RoundStep}};
-ghost use Rattle.row_book.specs.{Sound.{SoundRepository}, Trail.{trail_meaning, SoundSteps}};
+ghost use Rattle.row_book.specs.{Book.{repository_of, Sound}, Merging.{place_of}, Numbers.{numbers}, Repository.{Repository}, Rounds.{round}};
+ghost use Rattle.row_book.specs.Sound.{SoundRepository};
 ghost use Rattle.class_merge.specs.Classes.{class_in};
-ghost use Rattle.kernel_rounds.specs.{Extracting.{refusal, HasStepsBefore, IsBegun, IsOutcome, IsMidway, IsReached, OnRoundLimit}, Moving.{HasSteps}};
+ghost use Rattle.kernel_rounds.specs.Extracting.{refusal, IsMidway, IsReduced};
 
 use crate::error::RoundError;
-use crate::moving::{carry_round, no_steps};
-use crate::rounding::{Rounded, first_round, one_round};
-use clause_flatten::{FlatError, Flattened};
-use clause_pool::{NumList, Pool};
+use crate::moving::keep_live;
+use crate::rounding::{Reduced, add_round};
+use clause_flatten::FlatError;
+use clause_pool::Pool;
 use row_book::{Book, StepList};
 use std::alloc::{AllocError, Global};
 
 /// A kernel on its way: the book after some rounds, in the pool that the rounds work in, the class of each package in it,
 /// the steps so far, in the pool that the kernel is for, and the number of the next round.
 #[derive(Drop)]
-struct Progress {
-    book: Book,
-    class_of: Vec<u32>,
-    steps: StepList,
-    number: u32,
-}
-
-/// What the rounds begin with: the flattened book, in the pool that they work in, and the class of each package, which is its own.
-#[derive(Drop)]
-pub(crate) struct Begun {
-    pub(crate) flat: Flattened,
-    pub(crate) class_of: Vec<u32>,
-}
-
-/// What no round changes: a book, in the pool that the rounds work in, the class of each package in it, its held
-/// packages, and the steps, in the pool that the kernel is for.
-#[derive(Drop)]
-pub(crate) struct FixedPoint {
+pub(crate) struct Progress {
     pub(crate) book: Book,
     pub(crate) class_of: Vec<u32>,
-    pub(crate) held: NumList,
     pub(crate) steps: StepList,
-}
-
-/// What a round comes to.
-#[derive(Drop)]
-enum Outcome {
-    /// It changes nothing.
-    Done(FixedPoint),
-    /// There is more to do.
-    More(Progress),
+    pub(crate) number: u32,
 }
 
 /// The class of a package in a list.
@@ -104,166 +78,63 @@ pub(crate) fn round_error(fault: FlatError, number: u32, class_of: &[u32]) -> Ro
     }
 }
 
-/// What was known before a round: the class of each package, the steps so far, in the pool that the kernel is for, and the
-/// number of the round.
-#[derive(Drop)]
-struct Reached {
-    class_of: Vec<u32>,
-    steps: StepList,
-    number: u32,
+/// So many numbers, from 0 on.
+fn own_classes(alloc: Global, size: u32) -> Result<Vec<u32>, AllocError>
+    ensures { IfOk result (λ made. made.items ≡ numbers size 0) }
+{
+    let mut made = Vec::new(alloc);
+    for number in 0..size {
+        made.push(number)?;
+    }
+    Ok(made)
 }
 
-/// The kernel on its way behind a round: the steps of the round, in the pool that it worked in, come into the other pool.
-fn go_on(
-    alloc: Global,
-    reached: Reached,
-    made: Rounded,
-    work: &Pool,
-    into: &mut Pool,
-) -> Result<Progress, AllocError>
-    requires into { IsPool into.old }
-    requires round { SoundSteps work.now made.trail.steps }
-    ensures book { IfOk result (λ next. next.book ≡ made.book) }
-    ensures classes { IfOk result (λ next. next.class_of.items ≡ map (class_in made.class_of) reached.class_of.items) }
-    ensures steps { (start : Interned) (told : List RoundStep) → HasSteps start into.old reached.steps told →
-        IfOk result (λ next. HasSteps start into.new next.steps (told ++ trail_meaning work.now made.trail.steps)) }
-    ensures number { IfOk result (λ next. next.number ≡ min (reached.number + 1) 4294967295) }
-    ensures kept { Kept into.old into.new }
+/// Before the first round: the book as it is, each package as a class of its own, and no steps.
+pub(crate) fn begin(alloc: Global, book: &Book) -> Result<Progress, AllocError>
+    ensures { (pool : Interned) (limit : ℕ) (hold : Bool) → Sound pool book.now → IfOk result (IsMidway (repository_of pool book.now) limit hold pool pool pool) }
 {
-    let Reached {
-        class_of,
-        steps,
-        number,
-    } = reached;
-    let classes = compose(alloc, class_of.as_slice(), made.class_of.as_slice())?;
-    let steps = carry_round(alloc, steps, made.trail.steps.as_slice(), work, into)?;
+    let own = book.copy(alloc)?;
+    let class_of = own_classes(alloc, book.size())?;
     Ok(Progress {
-        book: made.book,
-        class_of: classes,
-        steps,
-        number: number.saturating_add(1),
+        book: own,
+        class_of,
+        steps: StepList::new(alloc),
+        number: 1,
     })
 }
 
-/// One round more, where it changes something: its steps come into the other pool at once, so that the next round has its
-/// book alone to work on.
-fn advance(
+/// After a round that changed something: its steps come into the other pool, and then the pool that it worked in keeps the
+/// rows of its book alone, so that no later round carries the first repository on.
+pub(crate) fn go_on(
     alloc: Global,
-    work: &mut Pool,
     now: Progress,
-    limit: u32,
-    hold: bool,
+    made: Reduced,
+    work: &mut Pool,
     into: &mut Pool,
-) -> Result<Outcome, RoundError>
-    requires sound { Sound work.old now.book }
-    requires limit { 0 < limit }
-    requires few { length now.class_of.items < 4294967296 }
+) -> Result<Progress, AllocError>
+    requires before { Sound work.old now.book }
+    requires after { Sound work.old made.book }
     requires into { IsPool into.old }
-    ensures made { (R : Repository) (start : Interned) → SoundRepository R → IsMidway R limit hold start into.old work.old now.book now.class_of.items now.steps now.number →
-        IfOk result (IsOutcome R limit hold start into.new work.new (repository_of work.old now.book)) }
-    ensures passed { (R : Repository) (start : Interned) → SoundRepository R → IsMidway R limit hold start into.old work.old now.book now.class_of.items now.steps now.number →
-        IfErr result (OnRoundLimit (λ passed. limit_at limit hold R ≡ Some passed)) }
-    ensures refused_only { (R : Repository) (start : Interned) → IsMidway R limit hold start into.old work.old now.book now.class_of.items now.steps now.number →
-        IfErr result (OnRoundLimit (λ _. HasStepsBefore R limit hold start into.new)) }
+    ensures next { (R : Repository) (limit : ℕ) (hold : Bool) (start old : Interned) → SoundRepository R → IsMidway R limit hold start into.old old now →
+        repository_of work.old now.book ≡ repository_of old now.book → IsReduced limit hold (repository_of old now.book) work.old made →
+        (round limit hold (repository_of old now.book) ≡ repository_of old now.book → ⊥) → IfOk result (IsMidway R limit hold start into.new work.new) }
+    ensures book { IfOk result (λ next. repository_of work.new next.book ≡ repository_of work.old made.book) }
     ensures kept { Kept into.old into.new }
 {
-    let Progress {
-        book: before,
+    let Reduced {
+        book,
         class_of,
-        steps,
-        number,
-    } = now;
-    let past = no_steps(alloc);
-    let made = match one_round(alloc, work, before, past, limit, hold) {
-        Ok(made) => made,
-        Err(fault) => return Err(round_error(fault, number, class_of.as_slice())),
-    };
-    if !made.changed {
-        return Ok(Outcome::Done(FixedPoint {
-            book: made.book,
-            class_of,
-            held: made.held,
-            steps,
-        }));
-    }
-    let reached = Reached {
-        class_of,
-        steps,
-        number,
-    };
-    let next = go_on(alloc, reached, made, work, into)?;
-    Ok(Outcome::More(next))
-}
-
-/// The first round, behind flattening: the pool that the kernel is for holds the book as it was before it was flattened, so that the
-/// steps have it as it stands there, and nothing comes into that pool.
-fn first_advance(
-    alloc: Global,
-    work: &mut Pool,
-    book: &Book,
-    begun: Begun,
-) -> Result<Outcome, AllocError>
-    requires sound { Sound work.old book.now }
-    requires flat { Sound work.old begun.flat.book }
-    ensures { (start : Interned) (limit : ℕ) (hold : Bool) → IsBegun start book.now limit hold work.old begun →
-        IfOk result (IsOutcome (repository_of start book.now) limit hold start start work.new (repository_of start book.now)) }
-{
-    let Begun {
-        flat,
-        class_of: so_far,
-    } = begun;
-    let made = first_round(alloc, work, book, flat)?;
-    let Rounded {
-        book: after,
-        class_of,
-        held,
-        trail,
-        changed,
+        idle,
+        ..
     } = made;
-    if !changed {
-        return Ok(Outcome::Done(FixedPoint {
-            book: after,
-            class_of: so_far,
-            held,
-            steps: StepList::new(alloc),
-        }));
-    }
-    let classes = compose(alloc, so_far.as_slice(), class_of.as_slice())?;
-    Ok(Outcome::More(Progress {
+    let classes = compose(alloc, now.class_of.as_slice(), class_of.as_slice())?;
+    let before = now.book.carry(alloc, work, into)?;
+    let steps = add_round(now.steps, before, class_of, idle)?;
+    let (after, _) = keep_live(alloc, work, &book, &[])?;
+    Ok(Progress {
         book: after,
         class_of: classes,
-        steps: trail.steps,
-        number: 2,
-    }))
-}
-
-/// The kernel of a book, behind its flattening, in a pool that each round compacts: rounds go on until one changes nothing, and their
-/// steps come into the other pool, which holds the book, and gains the rows of their books and their clauses alone.
-pub(crate) fn all_rounds(
-    alloc: Global,
-    work: &mut Pool,
-    book: &Book,
-    begun: Begun,
-    limit: u32,
-    hold: bool,
-    into: &mut Pool,
-) -> Result<FixedPoint, RoundError>
-    requires limit { 0 < limit }
-    requires begun { IsBegun into.old book.now limit hold work.old begun }
-    ensures reached { IfOk result (λ last. IsReached (repository_of into.old book.now) limit hold into.old into.new work.new last.book last.class_of.items last.held last.steps) }
-    ensures passed { IfErr result (OnRoundLimit (λ passed. limit_at limit hold (repository_of into.old book.now) ≡ Some passed)) }
-    ensures refused_only { IfErr result (OnRoundLimit (λ _. HasStepsBefore (repository_of into.old book.now) limit hold into.old into.new)) }
-    ensures kept { Kept into.old into.new }
-{
-    let first = first_advance(alloc, work, book, begun)?;
-    let mut now = match first {
-        Outcome::Done(last) => return Ok(last),
-        Outcome::More(next) => next,
-    };
-    loop {
-        match advance(alloc, work, now, limit, hold, into)? {
-            Outcome::Done(last) => return Ok(last),
-            Outcome::More(next) => now = next,
-        }
-    }
+        steps,
+        number: now.number.saturating_add(1),
+    })
 }

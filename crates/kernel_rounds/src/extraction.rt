@@ -2,18 +2,18 @@
 //!
 //! Rounds work in a copy of the caller's pool, which is compacted each round, so no later round carries the first repository
 //! on. The first book has the same ids in both pools.
-ghost use Rattle.std.specs.Prelude.{Some, ◌≡◌, ◌<◌, ◌+◌, ◌∷◌, ◌++◌, [], IfErr, IfOk, List, ℕ};
+ghost use Rattle.std.specs.Prelude.{Some, ◌≡◌, ◌<◌, IfErr, IfOk, ℕ};
 ghost use Rattle.clause_pool.specs.Interned.{Interned, IsPool, Kept};
-ghost use Rattle.row_book.specs.{Book.{repository_of, AddsOnly, Sound}, Numbers.{numbers}, Repository.{Repository}, Keeping.{KeepsImages}};
-ghost use Rattle.row_book.specs.Rounds.{kernel_image, limit_at, RoundStep, Settled};
-ghost use Rattle.kernel_rounds.specs.{Extracting.{HasStepsBefore, IsBegun, IsOwnKernel, IsExtracted, IsReached, OnRoundLimit}, Moving.{live_rows, HasSteps}};
+ghost use Rattle.row_book.specs.{Book.{repository_of, AddsOnly, Sound}, Keeping.{KeepsImages}, Repository.{Repository}, Sound.{SoundRepository}};
+ghost use Rattle.row_book.specs.Rounds.{kernel_image, limit_at, round, Settled};
+ghost use Rattle.kernel_rounds.specs.{Extracting.{HasStepsBefore, IsExtracted, IsMidway, IsOwnKernel, IsReduced, OnRoundLimit}, Moving.{live_rows}};
 
-use crate::advancing::{Begun, FixedPoint, all_rounds, round_error};
+use crate::advancing::{Progress, begin, go_on, round_error};
 use crate::error::RoundError;
-use clause_flatten::flatten;
+use crate::rounding::{Reduced, reduce};
 use clause_pool::{NumList, Pool};
 use listed::Listed;
-use row_book::{Book, Trail};
+use row_book::{Book, Trail, same_books};
 use std::alloc::{AllocError, Global};
 
 /// A kernel.
@@ -31,62 +31,48 @@ pub struct Kernel {
     pub trail: Trail,
 }
 
-/// So many numbers, from 0 on.
-fn own_classes(alloc: Global, size: u32) -> Result<Vec<u32>, AllocError>
-    ensures { IfOk result (λ made. made.items ≡ numbers size 0) }
-{
-    let mut made = Vec::new(alloc);
-    for number in 0..size {
-        made.push(number)?;
-    }
-    Ok(made)
-}
-
-/// The kernel with its book too in the other pool, which gains the rows of the book and their clauses alone.
-fn carry_kernel(
+/// The kernel that a round has left as it is, with its book too in the other pool.
+fn finish(
     alloc: Global,
-    last: FixedPoint,
+    now: Progress,
+    made: Reduced,
     hold: bool,
     from: &Pool,
     into: &mut Pool,
 ) -> Result<Kernel, AllocError>
-    requires sound { Sound from.now last.book }
+    requires sound { Sound from.now made.book }
     requires into { IsPool into.old }
-    ensures kernel { (R : Repository) (limit : ℕ) (start : Interned) → IsReached R limit hold start into.old from.now last.book last.class_of.items last.held last.steps →
-        IfOk result (λ made. IsExtracted R limit hold start into.new made.book made.class_of made.held made.trail.steps) }
-    ensures hold { IfOk result (λ made. made.hold ≡ hold) }
-    ensures only { (start : Interned) (told : List RoundStep) → HasSteps start into.old last.steps told →
-        IfOk result (λ made. AddsOnly start into.new (live_rows made.book made.trail.steps)) }
+    ensures kernel { (R : Repository) (limit : ℕ) (start old : Interned) → SoundRepository R → IsMidway R limit hold start into.old old now →
+        IsReduced limit hold (repository_of old now.book) from.now made → round limit hold (repository_of old now.book) ≡ repository_of old now.book →
+        IfOk result (λ kernel. IsExtracted R limit hold start into.new kernel.book kernel.class_of kernel.held kernel.trail.steps) }
+    ensures hold { IfOk result (λ kernel. kernel.hold ≡ hold) }
+    ensures only { (R : Repository) (limit : ℕ) (start old : Interned) → IsMidway R limit hold start into.old old now →
+        IfOk result (λ kernel. AddsOnly start into.new (live_rows kernel.book kernel.trail.steps)) }
     ensures kept { Kept into.old into.new }
 {
-    let FixedPoint {
-        book: own,
-        class_of,
-        held,
-        steps,
-    } = last;
-    let book = own.carry(alloc, from, into)?;
+    let book = made.book.carry(alloc, from, into)?;
     Ok(Kernel {
         book,
-        class_of: Listed::of(class_of),
-        held,
+        class_of: Listed::of(now.class_of),
+        held: made.held,
         hold,
-        trail: Trail { steps },
+        trail: Trail { steps: now.steps },
     })
 }
 
-/// The kernel of a book, behind its flattening in the pool that the rounds work in.
-fn kernel_of(
+/// The kernel of a book that has the same ids in the pool that the rounds work in. The other pool gains the rows of the kernel's
+/// book and of the books of the steps with their clauses alone.
+fn rounds(
     alloc: Global,
     work: &mut Pool,
     book: &Book,
-    begun: Begun,
     limit: u32,
     hold: bool,
     into: &mut Pool,
 ) -> Result<Kernel, RoundError>
+    requires sound { Sound into.old book.now }
+    requires same { work.old ≡ into.old }
     requires limit { 0 < limit }
-    requires begun { IsBegun into.old book.now limit hold work.old begun }
     ensures kernel { IfOk result (λ made. IsExtracted (repository_of into.old book.now) limit hold into.old into.new made.book made.class_of made.held made.trail.steps) }
     ensures hold { IfOk result (λ made. made.hold ≡ hold) }
     ensures only { IfOk result (λ made. AddsOnly into.old into.new (live_rows made.book made.trail.steps)) }
@@ -94,9 +80,18 @@ fn kernel_of(
     ensures refused_only { IfErr result (OnRoundLimit (λ _. HasStepsBefore (repository_of into.old book.now) limit hold into.old into.new)) }
     ensures kept { Kept into.old into.new }
 {
-    let last = all_rounds(alloc, work, book, begun, limit, hold, into)?;
-    let made = carry_kernel(alloc, last, hold, work, into)?;
-    Ok(made)
+    let mut now = begin(alloc, book)?;
+    loop {
+        let made = match reduce(alloc, work, &now.book, limit, hold) {
+            Ok(made) => made,
+            Err(fault) => return Err(round_error(fault, now.number, now.class_of.as_slice())),
+        };
+        if same_books(work, &now.book, &made.book) {
+            let kernel = finish(alloc, now, made, hold, work, into)?;
+            return Ok(kernel);
+        }
+        now = go_on(alloc, now, made, work, into)?;
+    }
 }
 
 /// The kernel of the book: rounds of flattening, merging, pruning and thinning go on until one changes nothing.
@@ -126,13 +121,7 @@ pub fn extract(
     ensures refused_only { IfErr result (OnRoundLimit (λ _. HasStepsBefore (repository_of pool.old book.now) limit hold pool.old pool.new)) }
     ensures kept { Kept pool.old pool.new }
 {
-    let mut own = pool.copy(alloc)?;
-    let class_of = own_classes(alloc, book.size())?;
-    let flat = match flatten(alloc, &mut own, book, limit, hold) {
-        Ok(flat) => flat,
-        Err(fault) => return Err(round_error(fault, 1, class_of.as_slice())),
-    };
-    let begun = Begun { flat, class_of };
-    let made = kernel_of(alloc, &mut own, book, begun, limit, hold, pool)?;
+    let mut work = pool.copy(alloc)?;
+    let made = rounds(alloc, &mut work, book, limit, hold, pool)?;
     Ok(made)
 }

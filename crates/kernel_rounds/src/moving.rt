@@ -1,17 +1,17 @@
-//! Books and trails that come into another pool, and pools with their live rows alone.
-ghost use Rattle.std.specs.Prelude.{◌≡◌, ◌++◌, [], ℕ, List, IfOk};
-ghost use Rattle.clause_pool.specs.{Interned.{Interned, IsPool, Kept}, Compacting.{Compacts, Knows}};
+//! Pools with their live rows alone, and books and trails over what is left.
+ghost use Rattle.std.specs.Prelude.{◌≡◌, ℕ, List, IfOk};
+ghost use Rattle.clause_pool.specs.{Interned.{Interned}, Compacting.{Compacts, Knows}};
 ghost use Rattle.listed.specs.Lists.{In};
-ghost use Rattle.row_book.specs.{Book.{AddsOnly, IsSameBook, Sound}, Rounds.{RoundStep}, Trail.{trail_meaning, SoundStep, SoundSteps}};
-ghost use Rattle.kernel_rounds.specs.Moving.{live_rows, step_rows, trail_rows, AreSameSteps, HasOnly, HasSteps, IsSameStep};
+ghost use Rattle.row_book.specs.{Book.{IsSameBook, Sound}, Trail.{SoundSteps}};
+ghost use Rattle.kernel_rounds.specs.Moving.{live_rows, step_rows, trail_rows, AreSameSteps, HasOnly, IsSameStep};
 
 use clause_pool::{NumList, Pool, Remap, RowId};
 use listed::Listed;
-use row_book::{Book, Step, StepList, Trail};
+use row_book::{Book, Step, StepList};
 use std::alloc::{AllocError, Global};
 
 /// The same numbers.
-fn copied(alloc: Global, list: &NumList) -> Result<NumList, AllocError>
+pub(crate) fn copied(alloc: Global, list: &NumList) -> Result<NumList, AllocError>
     ensures { IfOk result (λ made. made ≡ list.now) }
 {
     Ok(Listed::of(Vec::from_slice(alloc, list.as_slice())?))
@@ -100,85 +100,4 @@ pub(crate) fn keep_live(
     let moved = book.rename(alloc, &remap)?;
     let renamed = rename_steps(alloc, steps, &remap)?;
     Ok((moved, renamed))
-}
-
-/// The same step in another pool, which gains the rows of its book and their clauses alone.
-fn carry_step(alloc: Global, step: &Step, from: &Pool, into: &mut Pool) -> Result<Step, AllocError>
-    requires { SoundStep from.now step.now }
-    ensures same { IfOk result (λ made. IsSameStep from.now step.now into.new made) }
-    ensures only { IfOk result (λ made. AddsOnly into.old into.new (step_rows made)) }
-    ensures kept { Kept into.old into.new }
-{
-    match step {
-        Step::Flat { before } => {
-            let before = before.carry(alloc, from, into)?;
-            Ok(Step::Flat { before })
-        }
-        Step::Idle {
-            package,
-            clause,
-            added,
-        } => {
-            let clause = copied(alloc, clause)?;
-            Ok(Step::Idle {
-                package: *package,
-                clause,
-                added: *added,
-            })
-        }
-        Step::Merge { class_of } => {
-            let class_of = copied(alloc, class_of)?;
-            Ok(Step::Merge { class_of })
-        }
-    }
-}
-
-/// The same steps in another pool, which gains the rows of their books and their clauses alone.
-fn carry_steps(
-    alloc: Global,
-    steps: &[Step],
-    from: &Pool,
-    into: &mut Pool,
-) -> Result<StepList, AllocError>
-    requires into { IsPool into.old }
-    requires steps { SoundSteps from.now steps.now }
-    ensures same { IfOk result (λ made. AreSameSteps from.now steps.now into.new made) }
-    ensures only { IfOk result (λ made. AddsOnly into.old into.new (trail_rows made)) }
-    ensures kept { Kept into.old into.new }
-{
-    let mut made = StepList::new(alloc);
-    for step in steps {
-        let moved = carry_step(alloc, step, from, into)?;
-        made.push(moved)?;
-    }
-    Ok(made)
-}
-
-/// The steps in a pool with those of one more round behind them, which come from another pool: the pool gains the rows of
-/// their books and their clauses alone.
-pub(crate) fn carry_round(
-    alloc: Global,
-    mut steps: StepList,
-    round: &[Step],
-    from: &Pool,
-    into: &mut Pool,
-) -> Result<StepList, AllocError>
-    requires into { IsPool into.old }
-    requires round { SoundSteps from.now round.now }
-    ensures steps { (start : Interned) (told : List RoundStep) → HasSteps start into.old steps told →
-        IfOk result (λ made. HasSteps start into.new made (told ++ trail_meaning from.now round.now)) }
-    ensures kept { Kept into.old into.new }
-{
-    let moved = carry_steps(alloc, round, from, into)?;
-    steps.append(moved)?;
-    Ok(steps)
-}
-
-/// No steps.
-pub(crate) fn no_steps(alloc: Global) -> Trail
-    ensures { result.steps ≡ [] }
-{
-    Trail {
-        steps: StepList::new(alloc),
-    }
 }

@@ -1,7 +1,7 @@
 use Rattle.std.proofs.Common.{◌∷◌, [], ◌++◌, ◌∙◌, ap, sym}
 use Rattle.row_book.proofs.Numbers.{numbers_more}
 use Rattle.row_book.specs.Numbers.{numbers}
-use Rattle.kernel_rounds.proofs.extraction.own_classes.Goals as goal
+use Rattle.kernel_rounds.proofs.advancing.own_classes.Goals as goal
 
 pub loop-number-init : goal.loop-number-init
 unfolding numbers

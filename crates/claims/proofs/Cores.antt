@@ -1,31 +1,31 @@
 -- The goals and conflicts that the code keeps, by the words of the sentences.
+use Rattle.suite_compare.specs.{Indexes.{SearchedIndex}, Asking.{HasVerdict, asked_tree, tree_of, verdict_of, wanted_by}, Refusals.{home_in, packages_in}}
 use Rattle.std.proofs.Common.{◌≡◌, ℕ, suc, ◌+◌, ◌-◌, ◌<◌, ◌≤◌, Bool, true, false, cond, List, [], ◌∷◌, ◌++◌, Option, Some, None, length, map, slice_index_or, ltb-true, lt-ltb, refl, sym, ap, ap₂, subst, ◌∙◌, append_assoc, arith}
 use Rattle.std.proofs.{lemmas.List.{length-append}, Math.Seq.{get_or-append_seam}}
 use Rattle.std.specs.{Prelude.{◌↔◌, is_some, ltb, IfSome, option_map}, List.{AllZip, range_with_len}}
 use Rattle.clause_solver.specs.{declared.outcomes.Verdict.{Verdict}, declared.outcomes.Verdict.TheVariants.{No, Spent, Yes}}
 use Rattle.coinst_words.specs.Usage.{Text}
 use Rattle.deb_version.specs.Names.{is_name}
-use Rattle.explain_core.specs.{Core.{goal_core, goals_numbered, mark, marks_of, verdict_on}, Deletion.{Kept, kept_of}, Only.{only, pair}, Reach.{reach_of}}
-use Rattle.explain_core.specs.{Reasons.{clash, clashes_of, conflicts_reached, reasons_of, tree_over, verdict_over}, declared.explanation.Clash.{Clash}}
-use Rattle.explain_core.specs.declared.explanation.Mark.{Mark}
-use Rattle.explain_core.proofs.{Explained.{wanted_fits}, Overs.{only_sound}, Withins.{within_fit}}
-use Rattle.headline.specs.Indexes.{SearchedIndex}
+use Rattle.explain_core.specs.{Core.{goal_core, goals_numbered, mark, marks_of, verdict_on}, Deletion.{KeptItem, kept_of}, Only.{only, pair}, Reach.{reach_of}}
+use Rattle.explain_core.specs.Reasons.{clash, clashes_of, conflicts_reached, reasons_of, tree_over, verdict_over, clash_pairs}
+use Rattle.explain_core.specs.{declared.explanation.Clash.{Clash}, declared.explanation.Mark.{Mark}, OnStanzas.{CoinstButFor, HealthyButFor}}
+use Rattle.explain_core.proofs.{Explained.{wanted_fits}, OnStanzas.{from_solves, to_solves}, Overs.{only_sound, over_no, over_yes}, Withins.{within_fit}}
 use Rattle.listed.specs.Lists.{Ascending, In, here, there}
 use Rattle.listed.proofs.{Lists.{filter_cases}, Orders.{ascending_filter}}
 use Rattle.relation_fields.specs.declared.packages.PackageFacts.{PackageFacts}
-use Rattle.repo_model.specs.{FirstFault.{first_fault}, Goals.{any_version, goal_of, is_named_by, packages_named}, Repository.{packages_of, suite_repository}}
-use Rattle.repo_model.specs.{Stanzas.{stanza_at}, declared.goals.Goal.{Goal}}
+use Rattle.repo_model.specs.{FirstFault.{first_fault}, Goals.{CoinstGoals, any_version, goal_of, is_named_by, packages_named}}
+use Rattle.repo_model.specs.{Repository.{packages_of, suite_repository}, Stanzas.{stanza_at}, declared.goals.Goal.{Goal}}
 use Rattle.repo_model.proofs.{Elements.{range_cases}, SoundSuite.{suite_sound}}
 use Rattle.row_book.specs.{Book.{PairsFit}, Needs.{NeedsFit}, Repository.{Repository}, declared.pair.Pair.{Pair}}
 use Rattle.row_book.proofs.Numbers.{numbers_ascending, numbers_ranged}
-use Rattle.search_terms.specs.{Form.{form}, Tree.{IsTree, Tree, failed_leaves, found_of}}
+use Rattle.search_terms.specs.{Form.{form}, Laws.{Solves}, Tree.{IsTree, Tree, failed_leaves, found_of}}
 use Rattle.search_terms.proofs.Computed.{search_tree_is}
-use Rattle.suite_compare.specs.{Asking.{asked_tree, tree_of, verdict_of, wanted_by}, Refusals.{home_in, packages_in}}
-use Rattle.suite_compare.proofs.{Deciding.{named_from}, Ranged.{formula_ranged}}
-use Rattle.claims.specs.{Asked.{ComparedIndex}, Explained.{AreKept, ArePackagesFor, IsTooLongWith, PrintedGoal}, Laws.{suite_of}, Search.{Searched}}
-use Rattle.claims.specs.Settled.{IsPastBudget}
+use Rattle.suite_compare.proofs.{Deciding.{named_from, verdict_is_judged}, Ranged.{formula_ranged}}
+use Rattle.claims.specs.{Explained.{AreKept, ArePackagesFor, CouldMeet, IsTooLongWith, PrintedGoal, as_clashes}, Goals.{CanMeet}, Laws.{as_read}}
+use Rattle.claims.specs.{Search.{Searched}, Settled.{IsPastBudget}}
 use Rattle.claims.proofs.{Budget.{past_from, past_to}, Goals.{AreGoals, names_from, names_to, word_at}, Index.{indexes_are_read}}
-use Rattle.claims.proofs.{Keeping.{kept_all_spent, kept_so}, Kernel.{map_itself, map_map}, Meeting.{says_named}, Search.{searches_are_one, trees_are_searches}}
+use Rattle.claims.proofs.{Keeping.{IsSame, kept_all_spent, kept_so}, Kernel.{map_itself, map_map}}
+use Rattle.claims.proofs.{Meeting.{can_meet, each_from, each_to, meets_goals, says_named}, Search.{searches_are_one, trees_are_searches}}
 
 -- a goal of a number as it is printed
 abbrev pub printed_goal : List Text → Mark → PrintedGoal
@@ -65,11 +65,14 @@ module _ (index : SearchedIndex) (fine : first_fault index.text ≡ None) where
   abbrev stanzas : List PackageFacts
   stanzas = packages_in index.text
 
-  abbrev s : ComparedIndex
-  s = suite_of index
+  abbrev s : SearchedIndex
+  s = as_read index
 
   abbrev R : Repository
   R = suite_repository (home_in index.text) stanzas
+
+  named : (n : ℕ) → n < length stanzas → is_name (stanza_at stanzas n).name ≡ true
+  named = says_named index.text (home_in index.text) stanzas (indexes_are_read index.text fine)
 
   -- the goals
   module _ (words : List Text) (goals : List Goal) (z : AreGoals words goals) where
@@ -95,14 +98,29 @@ module _ (index : SearchedIndex) (fine : first_fault index.text ≡ None) where
           (λ w. (is_spent_so index.budget tree).1 (past_to index (map word_of ns) (goals_numbered goals ns) (are_goals ns inside) w)),
         )
 
-    pub goals_are_kept : AreKept (λ g. g.word) (λ g. g.undecided) (IsPastBudget s) [] words (map (printed_goal words) (marks_of (goal_core index.limit index.hold (home_in index.text) stanzas index.budget goals)))
+    same_goals : (ns : List ℕ) → ((n : ℕ) → In n ns → In n numbers_of) → IsSame word_of (λ ms. verdicts ms ≡ Spent) (IsPastBudget s) (λ ms. verdicts ms ≡ Yes) (CanMeet s) ns
+    same_goals ns inside =
+        let gs : List Goal = goals_numbered goals ns in
+        let judged : HasVerdict index.limit index.hold (home_in index.text) stanzas index.budget gs (verdicts ns) = verdict_is_judged index.limit index.hold (home_in index.text) stanzas index.budget gs in
+        record {
+          long = spent_same ns inside;
+          could = λ e. can_meet s (map word_of ns) gs (are_goals ns inside) (subst (HasVerdict index.limit index.hold (home_in index.text) stanzas index.budget gs) e judged).1;
+          cannot = λ short none met. by gs (verdicts ns) short none judged (meets_goals s (map word_of ns) gs (are_goals ns inside) named met);
+        }
+      where
+        by : (gs : List Goal) (v : Verdict) → ¬ (v ≡ Spent) → ¬ (v ≡ Yes) → HasVerdict index.limit index.hold (home_in index.text) stanzas index.budget gs v → CoinstGoals (home_in index.text) stanzas gs → ⊥
+        by gs Yes short none h met = none refl
+        by gs No short none h met = h.1 met
+        by gs Spent short none h met = short refl
+
+    pub goals_are_kept : AreKept (λ g. g.word) (λ g. g.undecided) (IsPastBudget s) (CanMeet s) [] words (map (printed_goal words) (marks_of (goal_core index.limit index.hold (home_in index.text) stanzas index.budget goals)))
     goals_are_kept =
-        let kept : List (Kept ℕ) = goal_core index.limit index.hold (home_in index.text) stanzas index.budget goals in
+        let kept : List (KeptItem ℕ) = goal_core index.limit index.hold (home_in index.text) stanzas index.budget goals in
         let all : map word_of numbers_of ≡ words = ap (λ n. map word_of (range_with_len 1 n)) (as_many words goals z) ∙ numbered [] words in
-        let so = kept_so word_of (λ (k : Kept ℕ). printed_goal words (mark k)) (λ (k : Kept ℕ). k.item) (λ (k : Kept ℕ). k.unsettled) (λ (g : PrintedGoal). g.word) (λ (g : PrintedGoal). g.undecided) (λ ns. verdicts ns ≡ Spent) (IsPastBudget s)
-        (λ k. refl) (λ k. refl) [] numbers_of kept spent_same (kept_all_spent verdicts numbers_of) in
-        subst (λ ws. AreKept (λ (g : PrintedGoal). g.word) (λ (g : PrintedGoal). g.undecided) (IsPastBudget s) [] ws (map (printed_goal words) (marks_of kept))) all
-        (subst (λ gs. AreKept (λ (g : PrintedGoal). g.word) (λ (g : PrintedGoal). g.undecided) (IsPastBudget s) [] (map word_of numbers_of) gs) (sym (map_map (printed_goal words) mark kept)) so)
+        let so = kept_so word_of (λ (k : KeptItem ℕ). printed_goal words (mark k)) (λ (k : KeptItem ℕ). k.item) (λ (k : KeptItem ℕ). k.unsettled) (λ (g : PrintedGoal). g.word) (λ (g : PrintedGoal). g.undecided) (λ ns. verdicts ns ≡ Spent) (IsPastBudget s) (λ ns. verdicts ns ≡ Yes) (CanMeet s)
+        (λ k. refl) (λ k. refl) [] numbers_of kept same_goals (kept_all_spent verdicts numbers_of) in
+        subst (λ ws. AreKept (λ (g : PrintedGoal). g.word) (λ (g : PrintedGoal). g.undecided) (IsPastBudget s) (CanMeet s) [] ws (map (printed_goal words) (marks_of kept))) all
+        (subst (λ gs. AreKept (λ (g : PrintedGoal). g.word) (λ (g : PrintedGoal). g.undecided) (IsPastBudget s) (CanMeet s) [] (map word_of numbers_of) gs) (sym (map_map (printed_goal words) mark kept)) so)
 
   -- the conflicts
   module _ (words : List Text) (goals : List Goal) (z : AreGoals words goals) where
@@ -118,8 +136,7 @@ module _ (index : SearchedIndex) (fine : first_fault index.text ≡ None) where
             let p : (0 ≤ n) × (n < 0 + length stanzas) = range_cases (length stanzas) 0 n w.0 in
             (omega (arith, p.1), names_from word (stanza_at stanzas n).name (stanza_at stanzas n).version goal is w.1)),
         (λ w.
-            let named : is_name (stanza_at stanzas n).name ≡ true = says_named index.text (home_in index.text) stanzas (indexes_are_read index.text fine) n w.0 in
-            named_from (home_in index.text) stanzas goal n w.0 (names_to word (stanza_at stanzas n).name (stanza_at stanzas n).version goal named is w.1)),
+            named_from (home_in index.text) stanzas goal n w.0 (names_to word (stanza_at stanzas n).name (stanza_at stanzas n).version goal (named n w.0) is w.1)),
       )),
     )
 
@@ -166,17 +183,54 @@ module _ (index : SearchedIndex) (fine : first_fault index.text ≡ None) where
       over_same : (verdict_over R index.budget wanted pairs ≡ Spent) ↔ IsTooLongWith s wanted pairs
       over_same = ((λ e. long_to ((is_spent_so index.budget (tree_with pairs)).0 e)), (λ w. (is_spent_so index.budget (tree_with pairs)).1 (long_from w)))
 
+    pub could_from : (clashes : List Clash) → CoinstButFor (home_in index.text) stanzas clashes goals → CouldMeet s clashes words
+    could_from clashes c = (c.whole, c.healthy, each_from stanzas c.whole words goals z c.serves)
+
+    pub could_to : (clashes : List Clash) → CouldMeet s clashes words → CoinstButFor (home_in index.text) stanzas clashes goals
+    could_to clashes c =
+        let healthy : HealthyButFor (home_in index.text) stanzas clashes c.0 = c.1 in
+        record { whole = c.0; healthy = healthy; serves = each_to stanzas c.0 words goals z (λ n i. named n (healthy.numbers n i)) c.2 }
+
+    abbrev Could : List Pair → Type 0
+    Could pairs = CouldMeet s (as_clashes pairs) words
+
+    told_as : (pairs : List Pair) → clash_pairs (as_clashes pairs) ≡ pairs
+    told_as [] = refl
+    told_as (x ∷ pairs) = ap (λ ys. x ∷ ys) (told_as pairs)
+
+    module _ (pairs : List Pair) (inside : (x : Pair) → In x pairs → In x all) where
+      over_could : verdict_over R index.budget wanted pairs ≡ Yes → Could pairs
+      over_could e =
+          let w = over_yes R (suite_sound (home_in index.text) stanzas) pairs (fit pairs inside) index.budget wanted needs e in
+          could_from (as_clashes pairs) (from_solves (home_in index.text) stanzas goals (as_clashes pairs) w.0 (subst (λ ps. Solves (only R ps) wanted w.0) (sym (told_as pairs)) w.1))
+
+      over_cannot : verdict_over R index.budget wanted pairs ≡ No → ¬ (Could pairs)
+      over_cannot e could =
+          let c = could_to (as_clashes pairs) could in
+          let w : Solves (only R pairs) wanted c.whole = subst (λ ps. Solves (only R ps) wanted c.whole) (told_as pairs) (to_solves (home_in index.text) stanzas goals (as_clashes pairs) c) in
+          over_no R (suite_sound (home_in index.text) stanzas) pairs (fit pairs inside) index.budget wanted needs e c.whole w.0 w.1
+
+      same_pairs : IsSame (λ x. x) (λ xs. verdict_over R index.budget wanted xs ≡ Spent) (IsTooLongWith s wanted) (λ xs. verdict_over R index.budget wanted xs ≡ Yes) Could pairs
+      same_pairs = record {
+        long = subst (λ ys. (verdict_over R index.budget wanted pairs ≡ Spent) ↔ IsTooLongWith s wanted ys) (sym (map_itself pairs)) (over_same pairs inside);
+        could = λ e. subst Could (sym (map_itself pairs)) (over_could e);
+        cannot = λ short none could. by (verdict_over R index.budget wanted pairs) refl short none (subst Could (map_itself pairs) could);
+      }
+        where
+          by : (v : Verdict) → verdict_over R index.budget wanted pairs ≡ v → ¬ (verdict_over R index.budget wanted pairs ≡ Spent) → ¬ (verdict_over R index.budget wanted pairs ≡ Yes) → Could pairs → ⊥
+          by Yes e short none could = none e
+          by No e short none could = over_cannot e could
+          by Spent e short none could = short e
+
     abbrev AreKeptPairs : List Clash → Type 0
-    AreKeptPairs clashes = AreKept (λ c. pair c.first c.second) (λ c. c.unsettled) (IsTooLongWith s wanted) [] all clashes
+    AreKeptPairs clashes = AreKept (λ c. pair c.first c.second) (λ c. c.unsettled) (IsTooLongWith s wanted) Could [] all clashes
 
     pairs_are_kept : AreKeptPairs (clashes_of (kept_of (verdict_over R index.budget wanted) all))
     pairs_are_kept =
         let f = verdict_over R index.budget wanted in
-        let same : (xs : List Pair) → ((x : Pair) → In x xs → In x all) → (f xs ≡ Spent) ↔ IsTooLongWith s wanted (map (λ x. x) xs)
-        = λ xs inside. subst (λ ys. (f xs ≡ Spent) ↔ IsTooLongWith s wanted ys) (sym (map_itself xs)) (over_same xs inside) in
-        subst (λ xs. AreKept (λ (c : Clash). pair c.first c.second) (λ (c : Clash). c.unsettled) (IsTooLongWith s wanted) [] xs (clashes_of (kept_of f all))) (map_itself all)
-        (kept_so (λ x. x) clash (λ (k : Kept Pair). k.item) (λ (k : Kept Pair). k.unsettled) (λ (c : Clash). pair c.first c.second) (λ (c : Clash). c.unsettled) (λ xs. f xs ≡ Spent) (IsTooLongWith s wanted)
-        (λ k. refl) (λ k. refl) [] all (kept_of f all) same (kept_all_spent f all))
+        subst (λ xs. AreKept (λ (c : Clash). pair c.first c.second) (λ (c : Clash). c.unsettled) (IsTooLongWith s wanted) Could [] xs (clashes_of (kept_of f all))) (map_itself all)
+        (kept_so (λ x. x) clash (λ (k : KeptItem Pair). k.item) (λ (k : KeptItem Pair). k.unsettled) (λ (c : Clash). pair c.first c.second) (λ (c : Clash). c.unsettled) (λ xs. f xs ≡ Spent) (IsTooLongWith s wanted) (λ xs. f xs ≡ Yes) Could
+        (λ k. refl) (λ k. refl) [] all (kept_of f all) same_pairs (kept_all_spent f all))
 
     pub conflicts_are_kept : (clashes : Option (List Clash)) → clashes ≡ option_map clashes_of (reasons_of R index.budget wanted) → ((clashes ≡ None) ↔ IsTooLongWith s wanted all) × IfSome clashes AreKeptPairs
     conflicts_are_kept clashes is = go (ltb index.budget (failed_leaves (tree_with all))) refl clashes is

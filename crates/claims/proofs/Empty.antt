@@ -1,4 +1,6 @@
 -- The two sentences of empty indexes, and a kernel text that is not that of its index.
+use Rattle.suite_compare.specs.{Indexes.{HasPackageOf}, Listing.{IsAsked, names_of}, declared.report.ReportLine.{ReportLine}}
+use Rattle.suite_compare.specs.declared.report.ReportLine.TheVariants.{Broken1, Broken2, Open1, Open2}
 use Rattle.std.proofs.Common.{◌≡◌, ℕ, ◌+◌, ◌<◌, false, List, [], ◌∷◌, ◌++◌, length, refl, ap, inl, arith, lit<}
 use Rattle.std.specs.{Fmt.{digits}, List.{AllZip}}
 use Rattle.coinst_words.specs.Usage.{Text}
@@ -7,9 +9,8 @@ use Rattle.listed.proofs.Lists.{In_none}
 use Rattle.relation_fields.specs.declared.packages.PackageFacts.{PackageFacts}
 use Rattle.repo_model.specs.Stanzas.{stanza_at, CoinstStanzas}
 use Rattle.row_book.specs.{Numbers.{numbers}, Repository.{Coinst}, Sets.{Is, NumSet}}
-use Rattle.suite_compare.specs.{declared.report.ReportLine.{ReportLine}, declared.report.ReportLine.TheVariants.{Broken1, Broken2, Open1, Open2}}
-use Rattle.claims.specs.{Asked.{HasPackageOf}, Compared.{IsAsked}, Classes.{classes_of, IsItsClass}, Control.{stanza_groups}, Index.{IndexSays, Says}}
-use Rattle.claims.specs.{Laws.{a_package, empty_index, no_classes, no_home, no_lines, no_repository, EmptyIndexes}, Printed.{names_of, printed_comparison}}
+use Rattle.claims.specs.{Classes.{classes_of, IsItsClass}, Control.{stanza_groups}, Index.{IndexSays, Says}, Settled.{Found}}
+use Rattle.claims.specs.{Laws.{a_package, empty_index, no_classes, no_home, no_lines, no_repository, EmptyIndexes}, Printed.{printed_comparison}}
 use Rattle.claims.specs.Sentences.{IsFaithfulList, IsFaithfulKernel}
 use Rattle.kernel_text.proofs.StoredReading.{one_reading}
 
@@ -93,7 +94,7 @@ not_there k (facts ∷ more) z s =
 has_none : (a : Text) → HasPackageOf empty_index a → ⊥
 has_none a h = let low : h.0 < 0 = h.1 in omega (arith, low)
 
-none_asked : (l : ReportLine) → IsAsked empty_index empty_index (names_of l) → ⊥
+none_asked : (l : ReportLine) → IsAsked Found empty_index empty_index (names_of l) → ⊥
 none_asked (Broken1 a) t = has_none a t.0
 none_asked (Open1 a) t = has_none a t.0
 none_asked (Broken2 a b) t = has_none a t.1.0
@@ -103,9 +104,11 @@ comparison_of_none : IsFaithfulList empty_index empty_index []
 comparison_of_none = record {
   older = nothing_said;
   newer = nothing_said;
-  broken = λ l e. ((λ i. absurd (In_none i)), (λ t. absurd (none_asked l t.0)));
-  undecided = λ l e. ((λ i. absurd (In_none i)), (λ t. absurd (none_asked l t.0)));
-  order = λ front middle back k l e. absurd (no_middle front (middle ++ l ∷ back) k e);
+  lists = record {
+    broken = λ l e. ((λ i. absurd (In_none i)), (λ t. absurd (none_asked l t.0)));
+    undecided = λ l e. ((λ i. absurd (In_none i)), (λ t. absurd (none_asked l t.0)));
+    order = tt;
+  };
 }
 
 lines_of_none : printed_comparison [] ≡ no_lines

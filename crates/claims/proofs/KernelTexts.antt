@@ -1,4 +1,5 @@
 -- What the text of the kernel of an index is, and which classes goals name in it.
+use Rattle.suite_compare.specs.{Indexes.{SearchedIndex}, Asking.{image_of, images_of}}
 use Rattle.std.proofs.Common.{◌≡◌, ℕ, ◌+◌, ◌<◌, ◌≤◌, Bool, true, false, ◌&&◌, eqb, eqb-true, eq-eqb, List, [], ◌∷◌, length, map, Some, filter, slice_index_or, refl, sym, ap, ap₂, subst, ◌∙◌, arith}
 use Rattle.std.proofs.lemmas.{Bool.{and_from, and_parts}, List.FromFn.{length-map-range_with_len}}
 use Rattle.std.specs.{List.{AllZip}, Str.{bytes_eq}}
@@ -15,10 +16,8 @@ use Rattle.repo_model.proofs.{Elements.{range_cases, range_from}, SoundSuite.{su
 use Rattle.row_book.specs.{Flattening.{held_of, packages}, Numbers.{numbers}, Repository.{Repository}, Rounds.{kernel, kernel_image}, Sets.{Is, NumSet}}
 use Rattle.row_book.proofs.Numbers.{numbers_ascending, numbers_from, numbers_parts}
 use Rattle.search_terms.specs.{declared.literals.Literal.{Literal}, Form.{form}}
-use Rattle.suite_compare.specs.Asking.{image_of, images_of}
 use Rattle.suite_compare.proofs.Deciding.{named_from}
-use Rattle.claims.specs.{Asked.{ComparedIndex}, Certificates.{AreAsked, AreClassesFor}, Classes.{classes_of, is_in_class, IsOneOf}, Goals.{NamesPackage}}
-use Rattle.claims.specs.Settled.{IsKernelText}
+use Rattle.claims.specs.{Certificates.{AreAsked, AreClassesFor}, Classes.{classes_of, is_in_class, IsOneOf}, Goals.{NamesPackage}, Settled.{IsKernelText}}
 use Rattle.claims.proofs.{Goals.{AreGoals, names_from, names_to}, Kernel.{kernels_are_kernels, kernels_are_one}, Members.{people_are, text_same}}
 
 first_same : (X Y : NumSet) → X ∷ [] ≡ Y ∷ [] → (n : ℕ) → X n ≡ Y n
@@ -41,7 +40,7 @@ each_classed class stanzas = length-map-range_with_len class 0 (length stanzas)
 abbrev is_line_of : PackageFacts → Member → Bool
 is_line_of s m = bytes_eq m.name s.name && bytes_eq m.version s.version
 
-module _ (s : ComparedIndex) (text : Text) (k : IsKernelText s text) where
+module _ (s : SearchedIndex) (text : Text) (k : IsKernelText s text) where
   abbrev R : Repository
   R = suite_repository s.home s.stanzas
 

@@ -1,4 +1,5 @@
 -- An index has one kernel text.
+use Rattle.suite_compare.specs.Indexes.{SearchedIndex}
 use Rattle.std.proofs.Common.{◌≡◌, ℕ, ◌+◌, ◌<◌, ◌≤◌, true, ◌&&◌, List, length, map, eqb, eq-eqb, eqb-true, slice_index_or, refl, sym, ap, subst, ◌∙◌, arith}
 use Rattle.std.proofs.lemmas.{Bool.{and_parts}, List.FromFn.{get_or-map-range_with_len}}
 use Rattle.coinst_words.specs.Usage.{Text}
@@ -10,13 +11,13 @@ use Rattle.repo_model.specs.{Repository.{packages_of, suite_repository}, Stanzas
 use Rattle.repo_model.proofs.{Accepted.{AreSingle}, Elements.{range_cases}, Packages.{length_clauses}, SoundSuite.{suite_sound}}
 use Rattle.row_book.specs.{Flattening.{held_of}, Repository.{Repository}, Rounds.{kernel, kernel_class, kernel_image}, Sets.{Is, NumSet}}
 use Rattle.row_book.proofs.Numbers.{map_same}
-use Rattle.claims.specs.{Asked.{ComparedIndex}, Classes.{classes_of, is_in_class}, Laws.{KernelTextsAreOne}, Settled.{IsKernelText}}
+use Rattle.claims.specs.{Classes.{classes_of, is_in_class}, Laws.{KernelTextsAreOne}, Settled.{IsKernelText}}
 use Rattle.claims.proofs.{Acceptance.{single_list}, KernelTexts.{each_classed, image_is, repository_is}, Members.{only_class}}
 
 abbrev alone : ℕ → NumSet
 alone i n = eqb n i
 
-module _ (s : ComparedIndex) (text : Text) (k : IsKernelText s text) where
+module _ (s : SearchedIndex) (text : Text) (k : IsKernelText s text) where
   abbrev R : Repository
   R = suite_repository s.home s.stanzas
 

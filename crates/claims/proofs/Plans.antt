@@ -5,7 +5,7 @@ use Rattle.std.specs.{Cmp.Lexicographic.{pointwise}, List.{AllZip}, Str.{bytes_e
 use Rattle.clause_pool.specs.Lists.{InOrder}
 use Rattle.clause_pool.proofs.Order.{order_filter, ordered_has, ordered_order}
 use Rattle.coinst_words.specs.Usage.{Text}
-use Rattle.headline.specs.Indexes.{SearchedIndex}
+use Rattle.suite_compare.specs.{Indexes.{SearchedIndex, searched}, Refusals.{home_in, packages_in}}
 use Rattle.listed.specs.Lists.{In, here, there}
 use Rattle.listed.proofs.Lists.{In_append_left, In_append_right, In_map, filter_cases, filter_from, same_bytes}
 use Rattle.migrate_plan.specs.{Differing.{differing, differs, packages_of_name, says_same}, Laws.{SaysSame}, Mix.{is_left, is_taken, mix, only_names}}
@@ -13,8 +13,7 @@ use Rattle.migrate_plan.proofs.Deciding.{test_is_equality}
 use Rattle.relation_fields.specs.{declared.packages.Home.{Home}, declared.packages.PackageFacts.{PackageFacts}}
 use Rattle.repo_model.specs.{FirstFault.{first_fault}, Goals.{names_in}}
 use Rattle.stanza_reader.specs.Blanking.{picked}
-use Rattle.suite_compare.specs.Refusals.{home_in, packages_in}
-use Rattle.claims.specs.{Control.{stanza_groups}, Index.{IndexSays, Says, SaysTheSame}, Laws.{suite_of}, Plans.{IsMix, group_name}}
+use Rattle.claims.specs.{Control.{stanza_groups}, Index.{IndexSays, Says, SaysTheSame}, Laws.{as_read}, Plans.{IsMix, group_name}}
 use Rattle.claims.proofs.{Groups.{groups_join, groups_picked, name_of_group, picked_by}, Index.{indexes_are_read}}
 
 -- the name of a package is one of their names
@@ -89,7 +88,7 @@ only_groups test text fine =
     ∙ picked_by (λ g. test (group_name g)) (stanza_groups text)
 
 pub mix_is : (old new : SearchedIndex) (taken : List Text) → first_fault old.text ≡ None → first_fault new.text ≡ None → first_fault (mix old.text new.text taken) ≡ None
-    → IsMix (suite_of old) (suite_of new) taken (suite_of (record { text = mix old.text new.text taken; budget = old.budget; limit = old.limit; hold = old.hold }))
+    → IsMix (as_read old) (as_read new) taken (searched (mix old.text new.text taken) old.budget old.limit old.hold)
 unfolding mix
 mix_is old new taken old_fine new_fine fine = record {
   groups = groups_join (only_names (is_left taken) old.text) (only_names (is_taken taken) new.text) ∙ ap₂ (λ xs ys. xs ++ ys) (only_groups (is_left taken) old.text old_fine) (only_groups (is_taken taken) new.text new_fine);

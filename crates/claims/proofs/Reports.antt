@@ -2,7 +2,7 @@
 use Rattle.std.proofs.Common.{◌≡◌, ℕ, ◌<◌, true, false, List, [], ◌∷◌, None, eqb, length, ltb-true, refl, sym, ap, ap₂, subst, ◌∙◌, arith, inl, inr}
 use Rattle.std.specs.{Prelude.{codes, ltb}, Fmt.{digits}, List.{AllZip}}
 use Rattle.coinst_words.specs.Usage.{Text}
-use Rattle.headline.specs.Indexes.{SearchedIndex, searched}
+use Rattle.suite_compare.specs.Indexes.{SearchedIndex, searched}
 use Rattle.kernel_text.specs.{KernelText.{kernel_text, members_of}, declared.member.Member.{Member}}
 use Rattle.kernel_text.proofs.StoredReading.{one_reading}
 use Rattle.listed.specs.Lists.{In, has, here}
@@ -14,7 +14,7 @@ use Rattle.search_terms.specs.{declared.literals.Literal.{Literal}, Closure.{InC
 use Rattle.status_check.specs.declared.report.OwnState.TheVariants.{Healthy as Standing}
 use Rattle.suite_compare.specs.Refusals.{home_in, packages_in}
 use Rattle.claims.specs.{Certificates.{AreClassesFor, IsTooLong}, Control.{stanza_groups}, Index.{GroupsSay, SaysTheSame}}
-use Rattle.claims.specs.Laws.{TrueReports, empty_index, kernel_printed, no_classes, no_home, no_packages, no_repository, suite_of}
+use Rattle.claims.specs.Laws.{TrueReports, empty_index, kernel_printed, no_classes, no_home, no_packages, no_repository, as_read}
 use Rattle.claims.specs.{Search.{Searched, SplitsOn, found}, Settled.{IsKernelText, IsPastBudget}, Sentences.{IsFaithfulPlan, IsFaithfulSystem, suite_yes}}
 use Rattle.claims.specs.Sentences.IsFaithfulAnswer.{yes as answer_yes}
 use Rattle.claims.specs.Sentences.IsFaithfulStoredAnswer.{yes as classes_yes}
@@ -33,7 +33,7 @@ nothing_behind : {A B : Type 0} (R : A → B → Type 0) (xs : List A) → AllZi
 nothing_behind R [] z = refl
 nothing_behind R (x ∷ xs) z = absurd z
 
-empty_is : suite_of index ≡ empty_index
+empty_is : as_read index ≡ empty_index
 empty_is =
     let one = indexes_are_one [] (home_in []) no_home (packages_in []) [] (indexes_are_read [] fine) nothing_said in
     ap₂ (λ home (stanzas : List PackageFacts). record { text = []; home = home; stanzas = stanzas; limit = 65536; hold = false; budget = 10000 }) one.0 (nothing_behind SaysTheSame (packages_in []) one.1)

@@ -1,4 +1,5 @@
 -- What goals ask of a stored kernel, and that it answers as the index of which it is the kernel.
+use Rattle.suite_compare.specs.{Indexes.{SearchedIndex}, Asking.{images_of}, Laws.{CoinstImages}}
 use Rattle.std.proofs.Common.{◌≡◌, ℕ, ◌<◌, true, Some, eqb, eqb-true, eq-eqb, List, [], ◌∷◌, length, refl, sym, subst, ◌∙◌, arith}
 use Rattle.std.proofs.lemmas.Bool.{and_from, and_parts}
 use Rattle.std.specs.List.{AllZip}
@@ -12,10 +13,9 @@ use Rattle.repo_model.specs.{declared.goals.Goal.{Goal}, Goals.{goal_of, CoinstG
 use Rattle.row_book.specs.{Flattening.{held_of}, Numbers.{numbers}, Repository.{Healthy}, Rounds.{kernel}, Sets.{Hit, HitsAll, Is, NumSet}}
 use Rattle.row_book.proofs.Numbers.{numbers_ascending, numbers_from}
 use Rattle.search_terms.specs.Form.{form}
-use Rattle.suite_compare.specs.{Asking.{images_of}, Laws.{CoinstImages}}
 use Rattle.suite_compare.specs.Asking as asking
 use Rattle.suite_compare.proofs.Deciding.{kernel_decides}
-use Rattle.claims.specs.{Asked.{ComparedIndex}, Certificates.{AreAsked, AreClassesFor, HasClassOfEach}, Goals.{NamesPackage}, Settled.{IsKernelText}}
+use Rattle.claims.specs.{Certificates.{AreAsked, AreClassesFor, HasClassOfEach}, Goals.{NamesPackage}, Settled.{IsKernelText}}
 use Rattle.claims.proofs.{Goals.{AreGoals, goal_for, names_from, names_to, word_for}, KernelTexts.{classes_are, member_below, repository_is}}
 
 module _ (text : Text) (c : KernelContent) (stands : KernelReads text c.format c.repository c.members c.held) where
@@ -78,7 +78,7 @@ module _ (text : Text) (c : KernelContent) (stands : KernelReads text c.format c
     }
 
     -- of the text of the kernel of an index
-    module _ (s : ComparedIndex) (k : IsKernelText s text) where
+    module _ (s : SearchedIndex) (k : IsKernelText s text) where
       repository_same : c.repository ≡ kernel s.limit s.hold (suite_repository s.home s.stanzas)
       repository_same = (one_reading text c.format (format_of s.hold) c.repository k.repository c.members k.members c.held (held_of s.limit s.hold k.repository) stands k.reads).1 ∙ repository_is s text k
 

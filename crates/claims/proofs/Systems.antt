@@ -17,7 +17,7 @@ use Rattle.stanza_reader.specs.{declared.stanza.FieldKind.{FieldKind}, declared.
 use Rattle.stanza_reader.specs.{declared.stanza.RawField.{RawField}, declared.stanza.RawStanza.{RawStanza}}
 use Rattle.stanza_reader.proofs.BlankLemmas.{good_readings}
 use Rattle.status_check.specs.Installed.{is_elsewhere, is_foreign, is_installed, is_own, says_installed, words}
-use Rattle.status_check.specs.{Own.{foreign_count, lines_fault, own_home, own_packages, own_text, status_fault}, Report.{IsStateOf, all_of}}
+use Rattle.status_check.specs.{Own.{foreign_count, file_fault, own_home, own_packages, own_stanzas_text, status_fault}, Report.{IsStateOf, all_of}}
 use Rattle.status_check.specs.{declared.report.OwnState.{OwnState}, declared.report.OwnState.TheVariants.{Healthy, Unhit, Clash}}
 use Rattle.status_check.proofs.OwnTexts.{all_stanzas}
 use Rattle.repo_model.proofs.Healthy.{healthy_same}
@@ -90,21 +90,21 @@ pub record Tells (home : Home) (file : Text) : Type 0 where
   pub groups : (group : List Text) → In group (stanza_groups file) → IsStanza group
   pub says : GroupsSay (filter (is_own_group home) (stanza_groups file)) (own_home home file) (own_packages home file)
   pub foreign : foreign_count home file ≡ count_by (is_foreign_group home) (stanza_groups file)
-  pub fine : first_fault (own_text home file) ≡ None
+  pub fine : first_fault (own_stanzas_text home file) ≡ None
 
 pub tells : (home : Home) (file : Text) → status_fault home file ≡ None → Tells home file
-unfolding readings own_text
+unfolding readings own_stanzas_text
 tells home file e =
-    let both = none_both (lines_fault file) (first_fault (own_text home file)) e in
+    let both = none_both (file_fault file) (first_fault (own_stanzas_text home file)) e in
     let all = first_none Stanza (stanzas file) both.0 in
     let gs : List (List Line) = reader.groups (numbered 1 (lines file)) in
     let pairs : AreReadAs gs all.0 = zip_ok gs all.0 (good_readings (readings file) all.0 all.1) in
     let theirs : map texts gs ≡ stanza_groups file = groups_are_theirs file in
     let known : stanzas_of file ≡ all.0 = all_stanzas file all.0 all.1 in
     let flags : map (is_own home) (stanzas_of file) ≡ map (is_own_group home) (stanza_groups file) = ap (map (is_own home)) known ∙ own_flags home gs all.0 pairs ∙ ap (map (is_own_group home)) theirs in
-    let own : stanza_groups (own_text home file) ≡ filter (is_own_group home) (stanza_groups file)
+    let own : stanza_groups (own_stanzas_text home file) ≡ filter (is_own_group home) (stanza_groups file)
     = groups_picked (map (is_own home) (stanzas_of file)) file ∙ ap (λ fs. picked fs (stanza_groups file)) flags ∙ picked_by (is_own_group home) (stanza_groups file) in
-    let index : IndexSays (own_text home file) (own_home home file) (own_packages home file) = indexes_are_read (own_text home file) both.1 in
+    let index : IndexSays (own_stanzas_text home file) (own_home home file) (own_packages home file) = indexes_are_read (own_stanzas_text home file) both.1 in
     record {
       groups = λ group i. are_stanzas gs all.0 pairs group (subst (In group) (sym theirs) i);
       says = subst (λ groups. GroupsSay groups (own_home home file) (own_packages home file)) own index;

@@ -1,10 +1,12 @@
 -- Reports of which the sentences are not true.
+use Rattle.suite_compare.specs.{Indexes.{SearchedIndex}, Listing.{AreInOrder, IsAsked, Precedes, names_of, is_broken}}
+use Rattle.claims.specs.Settled.{Found}
 use Rattle.std.proofs.Common.{◌≡◌, ℕ, ◌<◌, Bool, true, false, not, cond, ◌||◌, eqb, eqb-true, List, [], ◌∷◌, ◌++◌, Result, Ok, Err, Some, None, length, refl, sym, ap, subst, ◌∙◌, arith, inl, inr}
 use Rattle.std.specs.{Prelude.{codes, slice_index_or}, Fmt.{digits}, List.{AllZip, list_any}}
+use Rattle.clause_solver.specs.declared.outcomes.Verdict.TheVariants.{Yes, No}
 use Rattle.deb_version.specs.Grammar.{behind_epoch, epoch_of, is_version, revision_in, upstream_in}
 use Rattle.clause_pool.proofs.Order.{before_asym}
 use Rattle.coinst_words.specs.Usage.{Text}
-use Rattle.headline.specs.{Indexes.{SearchedIndex}, Listing.{is_broken}}
 use Rattle.kernel_text.specs.{KernelLines.{line_text, with_feed}, KernelReads.{KernelContent, content}, KernelText.{format_of}}
 use Rattle.kernel_text.specs.{Reading.{number_limit, repository_of_reading}, StoredReading.{stored_reading}, declared.fault.KernelFault.{KernelFault}}
 use Rattle.kernel_text.specs.declared.member.Member.{Member}
@@ -19,10 +21,9 @@ use Rattle.row_book.specs.{Book.{lists_of_pairs}, Flattening.{held_of}, Numbers.
 use Rattle.search_terms.specs.{Derives.{Derives}, declared.literals.Literal.{Literal}}
 use Rattle.status_check.specs.{declared.report.OwnState.{OwnState}, declared.report.OwnState.TheVariants.{Healthy, Unhit, Clash as Clashing}}
 use Rattle.suite_compare.specs.{declared.report.ReportLine.{ReportLine}, declared.report.ReportLine.TheVariants.{Broken1, Broken2, Open1, Open2}}
-use Rattle.claims.specs.{Answers.{printed_installation, printed_no}, Asked.{ComparedIndex}, Compared.{FoundInstallable, FoundUninstallable, IsAsked}}
-use Rattle.claims.specs.{Certificates.{Refutes}, Control.{stanza_groups}, Explained.{PrintedGoal, printed_core, kept_words}}
-use Rattle.claims.specs.{Goals.{CanMeet, HasEach, all_stanzas}, Index.{GroupsSay, Says}, Plans.{IsMix}, Settled.{IsKernelText}}
-use Rattle.claims.specs.{Laws.{WrongReports, a_class, a_package, suite_of, two_classes}, Printed.{Precedes, comparison_status, names_of}}
+use Rattle.claims.specs.{Answers.{printed_installation, printed_no}, Certificates.{Refutes}, Control.{stanza_groups}}
+use Rattle.claims.specs.{Explained.{PrintedGoal, printed_core, kept_words}, Goals.{CanMeet, HasEach, all_stanzas}, Index.{GroupsSay, Says}, Plans.{IsMix}}
+use Rattle.claims.specs.{Settled.{IsKernelText}, Laws.{WrongReports, a_class, a_package, as_read, two_classes}, Printed.{comparison_status}}
 use Rattle.claims.specs.Systems.{IsOwnState, system_status}
 use Rattle.claims.specs.Sentences.{IsFaithfulAnswer, IsFaithfulExplanation, IsFaithfulKernel, IsFaithfulList, IsFaithfulPlan, IsFaithfulStoredAnswer, IsFaithfulSystem, IsRightStep}
 use Rattle.claims.specs.Spelling.{WritesAlternatives, WritesAtom}
@@ -77,7 +78,7 @@ reads_two : repository_in (stored_reading two_classes) ≡ two_empty
 unfolding stored_reading number_limit repository_of_reading line_text digits is_version epoch_of behind_epoch upstream_in revision_in numbers lists_of_pairs
 reads_two = refl
 
-two_alike : (index : ComparedIndex) → ¬ (IsKernelText index two_classes)
+two_alike : (index : SearchedIndex) → ¬ (IsKernelText index two_classes)
 two_alike index k =
     let held : List ℕ = held_of index.limit index.hold k.repository in
     let read : stored_reading two_classes ≡ Ok (content (format_of index.hold) k.repository k.members held) = (texts_are_told two_classes (format_of index.hold) k.repository k.members held).0 k.reads in
@@ -107,7 +108,7 @@ against_none home s it = nothing {A = Text} WritesAtom s.against it.against
 abbrev first_alone : NumSet
 first_alone n = eqb n 0
 
-meets_a : (index : ComparedIndex) (s : PackageFacts) → index.stanzas ≡ s ∷ [] → Says index.home group s → CanMeet index (codes "a" ∷ [])
+meets_a : (index : SearchedIndex) (s : PackageFacts) → index.stanzas ≡ s ∷ [] → Says index.home group s → CanMeet index (codes "a" ∷ [])
 meets_a index s is it = subst (λ all. (whole : NumSet) × HealthyStanzas index.home all whole × HasEach all whole (codes "a" ∷ [])) (sym is) (
   first_alone,
   record {
@@ -119,14 +120,14 @@ meets_a index s is it = subst (λ all. (whole : NumSet) × HealthyStanzas index.
   (λ goal i. elim (In_cases i) [ inl same ↦ (0, refl, inl (same ∙ sym (is_a index.home s it))) | inr j ↦ absurd (In_none j) ]),
 )
 
-there_are_packages : (index : ComparedIndex) → AllZip (Says index.home) (group ∷ []) index.stanzas → CanMeet index (codes "a" ∷ [])
+there_are_packages : (index : SearchedIndex) → AllZip (Says index.home) (group ∷ []) index.stanzas → CanMeet index (codes "a" ∷ [])
 there_are_packages index z = go index.stanzas refl z
   where
     go : (all : List PackageFacts) → index.stanzas ≡ all → AllZip (Says index.home) (group ∷ []) all → CanMeet index (codes "a" ∷ [])
     go [] is z = absurd z
     go (s ∷ all) is z = meets_a index s (is ∙ ap (λ more. s ∷ more) (nothing (Says index.home) all z.1)) z.0
 
-no_is_wrong : (index : ComparedIndex) (log : List (List Literal)) (status : ℕ) → GroupsSay (stanza_groups a_package) index.home index.stanzas → ¬ (IsFaithfulAnswer index (codes "a" ∷ []) status (printed_no log))
+no_is_wrong : (index : SearchedIndex) (log : List (List Literal)) (status : ℕ) → GroupsSay (stanza_groups a_package) index.home index.stanzas → ¬ (IsFaithfulAnswer index (codes "a" ∷ []) status (printed_no log))
 no_is_wrong index log status says (answer_yes ends set e within order healthy each) = let h : 110 ≡ 121 = ap head_of e in omega (arith, h)
 no_is_wrong index log status says (answer_no ends other e within none refutes) = none (there_are_packages index (subst (λ groups. AllZip (Says index.home) groups index.stanzas) one_group says.each))
 no_is_wrong index log status says (answer_undecided ends e past) = let h : 110 ≡ 117 = ap head_of e in omega (arith, h)
@@ -135,7 +136,7 @@ no_is_wrong index log status says (answer_undecided ends e past) = let h : 110 �
 longer : (stanzas : List PackageFacts) (n : ℕ) (set : List ℕ) → printed_installation stanzas [] ≡ printed_installation stanzas (n ∷ set) → ⊥
 longer stanzas n set e = let h : 0 ≡ 105 = ap (λ (text : Text). slice_index_or text 4 0) e in omega (arith, h)
 
-empty_is_wrong : (index : ComparedIndex) (status : ℕ) → ¬ (IsFaithfulAnswer index (codes "a" ∷ []) status (printed_installation index.stanzas []))
+empty_is_wrong : (index : SearchedIndex) (status : ℕ) → ¬ (IsFaithfulAnswer index (codes "a" ∷ []) status (printed_installation index.stanzas []))
 empty_is_wrong index status (answer_yes ends [] e within order healthy each) = let w = each (codes "a") here in absurd (let none : false ≡ true = w.1 in let wrong : ⊥ = cc in wrong)
 empty_is_wrong index status (answer_yes ends (n ∷ set) e within order healthy each) = longer index.stanzas n set e
 empty_is_wrong index status (answer_no ends log e within none refutes) = let h : 121 ≡ 110 = ap head_of e in omega (arith, h)
@@ -149,7 +150,7 @@ no_entries (entry ∷ log) e = let h : 0 ≡ 108 = ap (λ (text : Text). slice_i
 derives_not : (formula : List (List Literal)) → ¬ (Derives formula [])
 derives_not formula d = let last = d.last in let no : ⊥ = cc in no
 
-no_entry : (index : SearchedIndex) (goals : List Text) (status : ℕ) → first_fault index.text ≡ None → ¬ (IsFaithfulAnswer (suite_of index) goals status (printed_no []))
+no_entry : (index : SearchedIndex) (goals : List Text) (status : ℕ) → first_fault index.text ≡ None → ¬ (IsFaithfulAnswer (as_read index) goals status (printed_no []))
 no_entry index goals status fine (answer_yes ends set e within order healthy each) = let h : 110 ≡ 121 = ap head_of e in omega (arith, h)
 no_entry index goals status fine (answer_no ends log e within none refutes) =
     let shown : Refutes refutes.0 goals log = refutes.2 in
@@ -168,14 +169,14 @@ no_self (Open1 a) p = before_asym a a p p
 no_self (Broken2 a b) p = elim p [ inl first ↦ before_asym a a first first | inr second ↦ before_asym b b second.1 second.1 ]
 no_self (Open2 a b) p = elim p [ inl first ↦ before_asym a a first first | inr second ↦ before_asym b b second.1 second.1 ]
 
-line_twice : (old new : ComparedIndex) (l : ReportLine) → ¬ (IsFaithfulList old new (l ∷ l ∷ []))
-line_twice old new l k = no_self l (k.order [] [] [] l l refl)
+line_twice : (old new : SearchedIndex) (l : ReportLine) → ¬ (IsFaithfulList old new (l ∷ l ∷ []))
+line_twice old new l k = let order : AreInOrder (l ∷ l ∷ []) = k.lists.order in no_self l (order.0 l here)
 
 broken_done : (l : ReportLine) (lines : List ReportLine) → is_broken l ≡ true → comparison_status (l ∷ lines) ≡ 1
 broken_done l lines e = ap (λ b. cond (b || list_any is_broken lines) 1 (cond (list_any (λ m. not (is_broken m)) (l ∷ lines)) 8 0)) e
 
 -- no goal that is printed
-pub meets_none : (index : ComparedIndex) → CanMeet index []
+pub meets_none : (index : SearchedIndex) → CanMeet index []
 meets_none index = (
   (λ n. false),
   record {
@@ -191,7 +192,7 @@ goal_first : (b : Bool) (word rest : Text) → head_of (with_feed (cond b (codes
 goal_first true word rest = refl
 goal_first false word rest = refl
 
-no_goal : (index : ComparedIndex) (goals : List Text) (status : ℕ) → ¬ (IsFaithfulExplanation index goals status (printed_core index.stanzas [] (Some [])))
+no_goal : (index : SearchedIndex) (goals : List Text) (status : ℕ) → ¬ (IsFaithfulExplanation index goals status (printed_core index.stanzas [] (Some [])))
 no_goal index goals status (yes_printed ends e within met) = let h : 101 ≡ 121 = ap head_of e in omega (arith, h)
 no_goal index goals status (core_printed ends kept clashes e within core conflicts) = go kept e core.impossible
   where
@@ -208,7 +209,7 @@ no_goal index goals status (core_printed ends kept clashes e within core conflic
 no_goal index goals status (undecided_printed ends e past) = let h : 101 ≡ 117 = ap head_of e in omega (arith, h)
 
 -- a machine that does not stand together
-well : (index : ComparedIndex) (file printed : Text) (k : IsFaithfulSystem index file 0 printed) → HealthyStanzas k.home k.own (all_stanzas k.own)
+well : (index : SearchedIndex) (file printed : Text) (k : IsFaithfulSystem index file 0 printed) → HealthyStanzas k.home k.own (all_stanzas k.own)
 well index file printed k = by k.state k.state_is k.status_is
   where
     by : (state : OwnState) → IsOwnState k.home k.own state → 0 ≡ system_status state k.answer → HealthyStanzas k.home k.own (all_stanzas k.own)
@@ -217,12 +218,12 @@ well index file printed k = by k.state k.state_is k.status_is
     by (Clashing m n) h e = absurd (let wrong : 0 ≡ 1 = e in omega (arith, wrong))
 
 -- a name that is taken breaks nothing
-taken_sound : (old new : ComparedIndex) (name : Text) (lines : List PlanLine) → IsFaithfulPlan old new (Take name ∷ lines) → (mix : ComparedIndex) × IsMix old new (name ∷ []) mix
-    × ((l : ReportLine) → is_broken l ≡ true → IsAsked old mix (names_of l) → FoundInstallable old (names_of l) → ¬ (FoundUninstallable mix (names_of l)))
+taken_sound : (old new : SearchedIndex) (name : Text) (lines : List PlanLine) → IsFaithfulPlan old new (Take name ∷ lines) → (mix : SearchedIndex) × IsMix old new (name ∷ []) mix
+    × ((l : ReportLine) → is_broken l ≡ true → IsAsked Found old mix (names_of l) → Found old (names_of l) Yes → ¬ (Found mix (names_of l) No))
 taken_sound old new name lines k =
     let s = k.each [] lines (Take name) refl in
     let right : IsRightStep old s.0 (Take name) = s.2 in
-    (s.0, s.1, (λ l broken asked can cannot. In_none (((right.1).broken l broken).1 (asked, can, cannot))))
+    (s.0, s.1, (λ l broken asked can cannot. In_none ((((right.1).lists).broken l broken).1 (asked, (can, cannot)))))
 
 pub wrong_reports : WrongReports
 wrong_reports = record {

@@ -1,4 +1,5 @@
 -- Control files: groups of lines, and the fields of a group (Debian Policy 5.1). Lines stand between line feeds.
+-- It is said once more here, since the definition of `stanza_reader` goes line by line and names the first fault.
 use Rattle.std.specs.Prelude.{◌≡◌, ◌≢◌, true, false, ◌&&◌, nat_lt, List, [], ◌∷◌, ◌++◌, Option, filter, find, map, length, slice_index_or, if◌then◌else◌}
 use Rattle.std.specs.{List.{list_any, slice_split}, Option.{option_map}, Str.{bytes_eq}}
 use Rattle.deb_version.specs.Grammar.{is_colon}

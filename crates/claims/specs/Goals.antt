@@ -1,4 +1,5 @@
 -- Goals: the words by which a question names packages.
+use Rattle.suite_compare.specs.Indexes.{SearchedIndex}
 use Rattle.std.specs.{Prelude.{◌≡◌, ℕ, true, ◌⊎◌, List, ◌∷◌, ◌++◌, length, nat_lt}, Ordering.{is_eq}}
 use Rattle.coinst_words.specs.Usage.{Text}
 use Rattle.deb_version.specs.{Grammar.{is_version}, Order.{version_order}}
@@ -6,7 +7,6 @@ use Rattle.listed.specs.Lists.{In}
 use Rattle.relation_fields.specs.declared.packages.PackageFacts.{PackageFacts}
 use Rattle.repo_model.specs.Stanzas.{stanza_at, HealthyStanzas}
 use Rattle.row_book.specs.Sets.{NumSet, Is}
-use Rattle.claims.specs.Asked.{ComparedIndex}
 
 -- the word of a goal names a package: it is the name of the package; or the name, an equals sign, 61, and a version that compares as equal
 abbrev pub NamesPackage : Text → Text → Text → Type 0
@@ -21,5 +21,5 @@ abbrev pub all_stanzas : List PackageFacts → NumSet
 all_stanzas stanzas n = nat_lt n (length stanzas)
 
 -- some healthy set of packages has one for each goal
-abbrev pub CanMeet : ComparedIndex → List Text → Type 0
+abbrev pub CanMeet : SearchedIndex → List Text → Type 0
 CanMeet s goals = (whole : NumSet) × HealthyStanzas s.home s.stanzas whole × HasEach s.stanzas whole goals

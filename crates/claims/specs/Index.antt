@@ -1,4 +1,5 @@
 -- What an index says of its packages: Debian Policy 5.3 and 7. The home is the common architecture of its stanzas.
+-- It is said once more here, since the definition of `repo_model` names the first fault, in the order of reading.
 use Rattle.std.specs.Prelude.{◌≡◌, ◌≢◌, ℕ, ◌<◌, Bool, true, false, not, ◌&&◌, ◌==◌, ◌⊎◌, List, [], ◌++◌, Some, filter, length, codes, unwrap_or}
 use Rattle.std.specs.{List.{AllZip, list_all, slice_split}, Ordering.{is_eq}, Str.{bytes_eq}}
 use Rattle.deb_version.specs.{Grammar.{is_version}, Names.{is_name}, Order.{version_order}}

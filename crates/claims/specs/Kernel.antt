@@ -1,4 +1,5 @@
--- The kernel of a repository, and the images of sets of packages in it.
+-- The kernel of a repository, and the images of sets of packages in it. It is said once more here, since the kernel of `row_book` is computed with a
+-- bound for the number of rounds.
 use Rattle.std.specs.Prelude.{◌≡◌, ◌≢◌, ℕ, Bool, List, map, Some}
 use Rattle.row_book.specs.{Flattening.{flat, Passed, passes}, Merging.{image}, Repository.{Repository}, Rounds.{round}, Sets.{NumSet}}
 

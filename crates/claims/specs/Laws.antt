@@ -1,24 +1,24 @@
 -- That the short definitions say the same as those that the code keeps.
+use Rattle.suite_compare.specs.{Indexes.{Judged, SearchedIndex, searched}, Listing.{IsAsked, names_of, ListsExactly, is_broken}}
+use Rattle.suite_compare.specs.{Refusals.{home_in, packages_in}, declared.report.ReportLine.{ReportLine}}
+use Rattle.claims.specs.{Settled.{Found, IsKernelText}, Answers.{printed_installation, printed_no}, Control.{stanza_groups}, Explained.{printed_core}}
+use Rattle.claims.specs.{Plans.{IsMix}, Systems.{is_own_group}, Goals.{all_stanzas}, Index.{GroupsSay, IndexSays, SaysTheSame}, Kernel.{SettlesTo}}
+use Rattle.claims.specs.{Classes.{classes_of, IsItsClass, IsOneOf}, Words.{compare_words, kernel_words}, Printed.{comparison_status, printed_comparison}}
+use Rattle.claims.specs.Sentences.{IsFaithfulAnswer, IsFaithfulExplanation, IsFaithfulKernel, IsFaithfulList, IsFaithfulPlan, IsFaithfulStoredAnswer, IsFaithfulSystem}
+use Rattle.claims.specs.{Search.{Searched}, Spelling.{WritesAtom, WritesAlternatives, WritesProvide}}
 use Rattle.std.specs.Prelude.{◌≡◌, ◌↔◌, ◌<◌, ◌≤◌, codes, length, false, true, Option, Some, unwrap_or, ℕ, Bool, List, [], ◌∷◌, ◌++◌, None, is_some, map, filter}
 use Rattle.std.specs.List.{AllZip}
+use Rattle.clause_solver.specs.declared.outcomes.Verdict.TheVariants.{Yes, No}
 use Rattle.coinst_words.specs.{Usage.{Text}, Jobs.{job_of}, declared.job.Job.{Job}, declared.job.Job.TheVariants.{Kernel, Compare}}
 use Rattle.relation_fields.specs.{Grammar.{atom_of, alternatives_of, provide_of}, Spelling.{Reads}, declared.packages.Home.{Home}}
 use Rattle.relation_fields.specs.declared.packages.PackageFacts.{PackageFacts}
 use Rattle.repo_model.specs.{Limits.{most_packages}, Facts.{facts_of}, Repository.{suite_repository}, FirstFault.{first_fault, home_of, stanzas_of}}
 use Rattle.repo_model.specs.Stanzas.{stanza_at, CoinstStanzas, HealthyStanzas}
-use Rattle.claims.specs.{Answers.{printed_installation, printed_no}, Control.{stanza_groups}, Explained.{printed_core}, Plans.{IsMix}, Systems.{is_own_group}}
-use Rattle.claims.specs.{Goals.{all_stanzas}, Index.{GroupsSay, IndexSays, SaysTheSame}, Kernel.{SettlesTo}, Classes.{classes_of, IsItsClass, IsOneOf}}
-use Rattle.claims.specs.{Settled.{IsKernelText}, Words.{compare_words, kernel_words}, Asked.{ComparedIndex}}
-use Rattle.claims.specs.{Compared.{FoundInstallable, FoundUninstallable, IsAsked}, Printed.{comparison_status, names_of, printed_comparison}}
-use Rattle.claims.specs.Sentences.{IsFaithfulAnswer, IsFaithfulExplanation, IsFaithfulKernel, IsFaithfulList, IsFaithfulPlan, IsFaithfulStoredAnswer, IsFaithfulSystem}
-use Rattle.claims.specs.{Search.{Searched}, Spelling.{WritesAtom, WritesAlternatives, WritesProvide}}
 use Rattle.listed.specs.Lists.{In}
 use Rattle.migrate_plan.specs.{declared.plan.PlanLine.{PlanLine}, declared.plan.PlanLine.TheVariants.{Take}}
 use Rattle.kernel_text.specs.{KernelReads.{KernelReads}, KernelText.{format_of, kernel_text}, Members.{kernel_members}, declared.member.Member.{Member}}
 use Rattle.row_book.specs.{Flattening.{packages}, Rounds.{kernel, kernel_class, kernel_held, kernel_image}, Sound.{SoundRepository}, Sets.{NumSet, Is}}
 use Rattle.row_book.specs.Repository.{Repository, Coinst}
-use Rattle.headline.specs.{Indexes.{SearchedIndex}, Listing.{ListsExactly, is_broken}}
-use Rattle.suite_compare.specs.{Refusals.{home_in, packages_in}, declared.report.ReportLine.{ReportLine}}
 use Rattle.search_terms.specs.{Tree.{Tree, IsTree, failed_leaves, found_of}, declared.literals.Literal.{Literal}}
 
 -- what is read of a relation is what it is one way of writing
@@ -66,9 +66,9 @@ KernelsMeanThis = (text printed : Text) (format : ℕ) (R : Repository) (members
     → (CoinstStanzas (record { name = home_of (stanzas_of text) }) (map facts_of (stanzas_of text)) S ↔ Coinst R (classes_of (map facts_of (stanzas_of text)) members S)))
     → IsFaithfulKernel text printed
 
--- an index as it is read, with its searches
-abbrev pub suite_of : SearchedIndex → ComparedIndex
-suite_of index = record { text = index.text; home = home_in index.text; stanzas = packages_in index.text; limit = index.limit; hold = index.hold; budget = index.budget }
+-- an index with the packages that are read of its text
+abbrev pub as_read : SearchedIndex → SearchedIndex
+as_read index = searched index.text index.budget index.limit index.hold
 
 -- the text of the kernel of an index, at a limit, with hold or without
 abbrev pub kernel_printed : ℕ → Bool → Home → List PackageFacts → Text
@@ -83,11 +83,11 @@ PrintedKernelsAreFaithful = (text : Text) (limit : ℕ) (hold : Bool) → first_
 
 -- and it is that of the kernel of the index as the sentences speak of it, so that they speak of some text
 abbrev pub KernelTextsAreThere : Type 0
-KernelTextsAreThere = (index : SearchedIndex) → first_fault index.text ≡ None → IsKernelText (suite_of index) (kernel_printed index.limit index.hold (home_in index.text) (packages_in index.text))
+KernelTextsAreThere = (index : SearchedIndex) → first_fault index.text ≡ None → IsKernelText (as_read index) (kernel_printed index.limit index.hold (home_in index.text) (packages_in index.text))
 
 -- and it is the only one
 abbrev pub KernelTextsAreOne : Type 0
-KernelTextsAreOne = (index : ComparedIndex) (first second : Text) → IsKernelText index first → IsKernelText index second → first ≡ second
+KernelTextsAreOne = (index : SearchedIndex) (first second : Text) → IsKernelText index first → IsKernelText index second → first ≡ second
 
 -- the words of a kernel ask for it, if they ask for anything: a path that looks like an option is refused, and so is 0
 abbrev pub KernelWordsAsk : Type 0
@@ -107,7 +107,7 @@ pub record WordsAreTaken : Type 0 where
 
 -- What is kept of a comparison is its sentence: two texts without a fault, and a list of exactly what is broken and what is open.
 abbrev pub ComparisonsMeanThis : Type 0
-ComparisonsMeanThis = (old new : SearchedIndex) (lines : List ReportLine) → first_fault old.text ≡ None → first_fault new.text ≡ None → ListsExactly old new lines → IsFaithfulList (suite_of old) (suite_of new) lines
+ComparisonsMeanThis = (old new : SearchedIndex) (lines : List ReportLine) → first_fault old.text ≡ None → first_fault new.text ≡ None → ListsExactly Judged (as_read old) (as_read new) lines → IsFaithfulList (as_read old) (as_read new) lines
 
 -- an empty index, and what is printed for it: a kernel without classes, and a comparison without lines
 abbrev pub no_home : Home
@@ -119,7 +119,7 @@ no_classes = codes "coinst-kernel 1" ++ 10 ∷ (codes "end 0 0" ++ 10 ∷ [])
 abbrev pub no_lines : Text
 no_lines = codes "end 0 0" ++ 10 ∷ []
 
-abbrev pub empty_index : ComparedIndex
+abbrev pub empty_index : SearchedIndex
 empty_index = record { text = []; home = no_home; stanzas = []; limit = 65536; hold = false; budget = 10000 }
 
 -- an index of one package
@@ -165,15 +165,15 @@ two_classes = codes "coinst-kernel 1" ++ 10 ∷ (codes "class 0" ++ 10 ∷ (code
 -- status 1, a machine with status 0 is healthy, and a name that is taken breaks nothing.
 pub record WrongReports : Type 0 where
   pub stranger : ¬ (IsFaithfulKernel [] a_class)
-  pub two_alike : (index : ComparedIndex) → ¬ (IsKernelText index two_classes)
-  pub no_package : (index : ComparedIndex) (status : ℕ) → ¬ (IsFaithfulAnswer index (codes "a" ∷ []) status (printed_installation index.stanzas []))
-  pub no_for_a_package : (index : ComparedIndex) (log : List (List Literal)) (status : ℕ) → GroupsSay (stanza_groups a_package) index.home index.stanzas → ¬ (IsFaithfulAnswer index (codes "a" ∷ []) status (printed_no log))
-  pub no_entry : (index : SearchedIndex) (goals : List Text) (status : ℕ) → first_fault index.text ≡ None → ¬ (IsFaithfulAnswer (suite_of index) goals status (printed_no []))
+  pub two_alike : (index : SearchedIndex) → ¬ (IsKernelText index two_classes)
+  pub no_package : (index : SearchedIndex) (status : ℕ) → ¬ (IsFaithfulAnswer index (codes "a" ∷ []) status (printed_installation index.stanzas []))
+  pub no_for_a_package : (index : SearchedIndex) (log : List (List Literal)) (status : ℕ) → GroupsSay (stanza_groups a_package) index.home index.stanzas → ¬ (IsFaithfulAnswer index (codes "a" ∷ []) status (printed_no log))
+  pub no_entry : (index : SearchedIndex) (goals : List Text) (status : ℕ) → first_fault index.text ≡ None → ¬ (IsFaithfulAnswer (as_read index) goals status (printed_no []))
   pub no_entry_of_classes : (kernel : Text) (R : Repository) (members : List Member) (goals : List Text) (budget status : ℕ) → ¬ (IsFaithfulStoredAnswer kernel R members goals budget status (printed_no []))
-  pub line_twice : (old new : ComparedIndex) (l : ReportLine) → ¬ (IsFaithfulList old new (l ∷ l ∷ []))
+  pub line_twice : (old new : SearchedIndex) (l : ReportLine) → ¬ (IsFaithfulList old new (l ∷ l ∷ []))
   pub broken_lines_end_with_1 : (l : ReportLine) (lines : List ReportLine) → is_broken l ≡ true → comparison_status (l ∷ lines) ≡ 1
-  pub no_goal : (index : ComparedIndex) (goals : List Text) (status : ℕ) → ¬ (IsFaithfulExplanation index goals status (printed_core index.stanzas [] (Some [])))
-  pub well : (index : ComparedIndex) (file printed : Text) → IsFaithfulSystem index file 0 printed →
+  pub no_goal : (index : SearchedIndex) (goals : List Text) (status : ℕ) → ¬ (IsFaithfulExplanation index goals status (printed_core index.stanzas [] (Some [])))
+  pub well : (index : SearchedIndex) (file printed : Text) → IsFaithfulSystem index file 0 printed →
       (home : Home) × (own : List PackageFacts) × GroupsSay (filter (is_own_group index.home) (stanza_groups file)) home own × HealthyStanzas home own (all_stanzas own)
-  pub taken : (old new : ComparedIndex) (name : Text) (lines : List PlanLine) → IsFaithfulPlan old new (Take name ∷ lines) → (mix : ComparedIndex) × IsMix old new (name ∷ []) mix
-      × ((l : ReportLine) → is_broken l ≡ true → IsAsked old mix (names_of l) → FoundInstallable old (names_of l) → ¬ (FoundUninstallable mix (names_of l)))
+  pub taken : (old new : SearchedIndex) (name : Text) (lines : List PlanLine) → IsFaithfulPlan old new (Take name ∷ lines) → (mix : SearchedIndex) × IsMix old new (name ∷ []) mix
+      × ((l : ReportLine) → is_broken l ≡ true → IsAsked Found old mix (names_of l) → Found old (names_of l) Yes → ¬ (Found mix (names_of l) No))

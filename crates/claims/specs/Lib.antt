@@ -15,6 +15,5 @@ pub mod Explained
 pub mod Plans
 pub mod Systems
 pub mod Settled
-pub mod Compared
 pub mod Sentences
 pub mod Laws

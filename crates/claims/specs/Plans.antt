@@ -1,15 +1,15 @@
 -- Plans: which names differ between two indexes, and the mixes of the two.
+use Rattle.suite_compare.specs.{Indexes.{SearchedIndex}, Listing.{is_broken}}
 use Rattle.std.specs.{Prelude.{◌≡◌, ℕ, Bool, true, false, if◌then◌else◌, not, List, [], ◌++◌, ◌-◌, codes, filter, length, unwrap_or}, Fmt.{decimal}}
 use Rattle.std.specs.{List.{AllZip, flat_map, list_any}, Str.{bytes_eq}}
 use Rattle.coinst_words.specs.Usage.{Text}
-use Rattle.headline.specs.Listing.{is_broken}
 use Rattle.kernel_text.specs.KernelLines.{with_feed}
 use Rattle.migrate_plan.specs.{Mix.{is_taken}, Plan.{taken_in}, declared.plan.PlanLine.{PlanLine}}
 use Rattle.migrate_plan.specs.declared.plan.PlanLine.TheVariants.{Take, LeftLimit, LeftLine}
-use Rattle.claims.specs.{Asked.{ComparedIndex}, Control.{field_value, stanza_groups}, Index.{IndexSays, SaysTheSame}, Printed.{printed_line}}
+use Rattle.claims.specs.{Control.{field_value, stanza_groups}, Index.{IndexSays, SaysTheSame}, Printed.{printed_line}}
 
 -- the packages of the name are not the same in both indexes, one after the other
-abbrev pub Differs : ComparedIndex → ComparedIndex → Text → Type 0
+abbrev pub Differs : SearchedIndex → SearchedIndex → Text → Type 0
 Differs old new name = ¬ (AllZip SaysTheSame (filter (λ s. bytes_eq name s.name) old.stanzas) (filter (λ s. bytes_eq name s.name) new.stanzas))
 
 -- the name that a group gives its package
@@ -18,7 +18,7 @@ group_name group = unwrap_or (field_value (codes "package") group) []
 
 -- A mix of two indexes by the names that are taken: the groups of the older one that give others, and then those of the newer one that give
 -- these. It is an index too, and is searched as the older one.
-pub record IsMix (old new : ComparedIndex) (taken : List Text) (mix : ComparedIndex) : Type 0 where
+pub record IsMix (old new : SearchedIndex) (taken : List Text) (mix : SearchedIndex) : Type 0 where
   pub groups : stanza_groups mix.text ≡ filter (λ g. not (is_taken taken (group_name g))) (stanza_groups old.text) ++ filter (λ g. is_taken taken (group_name g)) (stanza_groups new.text)
   pub index : IndexSays mix.text mix.home mix.stanzas
   pub searched : (mix.limit ≡ old.limit) × (mix.hold ≡ old.hold) × (mix.budget ≡ old.budget)

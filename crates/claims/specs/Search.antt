@@ -1,4 +1,5 @@
 -- A search by the rule of Davis, Putnam, Logemann and Loveland, on signed classes: how it goes on below some decisions, and how it ends.
+-- It is said once more here, since `search_terms` computes a tree, with a bound for its unit steps.
 use Rattle.std.specs.{Prelude.{◌≡◌, ℕ, ◌+◌, Bool, true, false, ◌↔◌, List, [], ◌∷◌, ◌++◌, Option, Some, None}, List.{find}, Option.{option_and_then, option_map}}
 use Rattle.search_terms.specs.{Closure.{literal, Clashes, InClosure}, Tree.{is_open_need, is_undecided}, declared.literals.Literal.{Literal}}
 

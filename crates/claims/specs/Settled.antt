@@ -1,15 +1,17 @@
--- Which texts are that of the kernel of an index.
+-- Which texts are that of the kernel of an index, and what is found by a search in that text.
+use Rattle.suite_compare.specs.Indexes.{SearchedIndex}
 use Rattle.std.specs.Prelude.{◌≡◌, ℕ, ◌<◌, List, [], ◌∷◌, length, map}
+use Rattle.clause_solver.specs.{declared.outcomes.Verdict.{Verdict}, declared.outcomes.Verdict.TheVariants.{Yes, No, Spent}}
 use Rattle.coinst_words.specs.Usage.{Text}
 use Rattle.kernel_text.specs.{KernelReads.{KernelReads}, KernelText.{format_of}, Members.{kernel_members}, declared.member.Member.{Member}}
 use Rattle.repo_model.specs.Repository.{packages_of, suite_repository}
 use Rattle.row_book.specs.{Flattening.{held_of}, Repository.{Repository}, Rounds.{Settled}, Sets.{NumSet, Is}}
-use Rattle.claims.specs.{Asked.{ComparedIndex}, Certificates.{IsTooLong}, Classes.{classes_of}, Index.{IndexSays}, Kernel.{SettlesTo}}
+use Rattle.claims.specs.{Certificates.{IsTooLong}, Classes.{classes_of}, Goals.{CanMeet}, Index.{IndexSays}, Kernel.{SettlesTo}}
 
 -- The text stands for the kernel of the index, at its limit and with hold or without, in format 2 or 1. The members are the packages of the index,
 -- each in its class, and those of a class in the order of the index. From what the index says rounds lead to the repository. They lead each set of
 -- packages to the classes that have a member line of it. The held classes are those that the limit holds. It is settled: no reduction is left to do.
-pub record IsKernelText (s : ComparedIndex) (printed : Text) : Type 0 where
+pub record IsKernelText (s : SearchedIndex) (printed : Text) : Type 0 where
   pub index : IndexSays s.text s.home s.stanzas
   pub repository : Repository
   pub members : List Member
@@ -21,5 +23,11 @@ pub record IsKernelText (s : ComparedIndex) (printed : Text) : Type 0 where
 
 -- The search for the goals in the kernel of the index is too long. By the laws `KernelTextsAreThere` and `KernelTextsAreOne` an index without a fault
 -- has one such text.
-abbrev pub IsPastBudget : ComparedIndex → List Text → Type 0
+abbrev pub IsPastBudget : SearchedIndex → List Text → Type 0
 IsPastBudget s goals = (kernel : Text) × IsKernelText s kernel × IsTooLong kernel goals s.budget
+
+-- What the search for goals finds: yes or no, within the budget, or that the budget is spent.
+abbrev pub Found : SearchedIndex → List Text → Verdict → Type 0
+Found s goals Yes = (¬ (IsPastBudget s goals)) × CanMeet s goals
+Found s goals No = (¬ (IsPastBudget s goals)) × (¬ (CanMeet s goals))
+Found s goals Spent = IsPastBudget s goals

@@ -1,4 +1,5 @@
 -- What a dpkg status file says of an installed system, and what is printed of it.
+use Rattle.suite_compare.specs.Indexes.{SearchedIndex}
 use Rattle.std.specs.Prelude.{◌≡◌, ℕ, ◌<◌, ◌≤◌, ◌⊎◌, ◌-◌, Bool, true, false, not, ◌&&◌, ◌||◌, List, [], ◌∷◌, ◌++◌, codes, filter, length, unwrap_or, if◌then◌else◌}
 use Rattle.std.specs.{Fmt.{decimal}, List.{flat_map, list_any}, Option.{option_map_or}, Str.{bytes_eq}}
 use Rattle.coinst_words.specs.Usage.{Text}
@@ -8,7 +9,7 @@ use Rattle.relation_fields.specs.{declared.packages.Home.{Home}, declared.packag
 use Rattle.repo_model.specs.{Repository.{in_conflict}, Stanzas.{Met, stanza_at, HealthyStanzas}}
 use Rattle.status_check.specs.{Installed.{says_installed, words}, declared.report.OwnState.{OwnState}}
 use Rattle.status_check.specs.declared.report.OwnState.TheVariants.{Healthy, Unhit, Clash}
-use Rattle.claims.specs.{Asked.{ComparedIndex}, Control.{field_value}, Explained.{printed_package}, Goals.{all_stanzas}, Index.{is_one_package}}
+use Rattle.claims.specs.{Control.{field_value}, Explained.{printed_package}, Goals.{all_stanzas}, Index.{is_one_package}}
 
 -- the group is of an installed package: the third of the three words of its status is `installed`
 abbrev pub is_installed_group : List Text → Bool
@@ -26,7 +27,7 @@ abbrev pub is_own_group : Home → List Text → Bool
 is_own_group home group = is_installed_group group && not (is_elsewhere_group home group)
 
 -- the index has the package: one of the same name, and a version that compares as equal
-abbrev pub has_package : ComparedIndex → PackageFacts → Bool
+abbrev pub has_package : SearchedIndex → PackageFacts → Bool
 has_package s own = list_any (λ it. is_one_package it.name it.version own.name own.version) s.stanzas
 
 -- the word of a goal for it
@@ -51,7 +52,7 @@ printed_state own (Unhit n) = with_feed (codes "self unhit " ++ printed_package 
 printed_state own (Clash m n) = with_feed (codes "self clash " ++ printed_package (stanza_at own m) ++ codes " " ++ printed_package (stanza_at own n))
 
 -- each own package and whether the index has it, the number of foreign ones, whether the own ones stand together, and what the index says
-abbrev pub printed_system : ComparedIndex → List PackageFacts → ℕ → OwnState → Text → Text
+abbrev pub printed_system : SearchedIndex → List PackageFacts → ℕ → OwnState → Text → Text
 printed_system s own foreign state suite =
     flat_map (λ it. with_feed ((if has_package s it then codes "have " else codes "lack ") ++ printed_package it)) own ++ with_feed (codes "foreign " ++ decimal foreign) ++ printed_state own state
     ++ with_feed (codes "suite " ++ suite) ++ with_feed (codes "end " ++ decimal (length (filter (has_package s) own)) ++ codes " " ++ decimal (length own - length (filter (has_package s) own)))

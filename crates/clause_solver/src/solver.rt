@@ -92,7 +92,13 @@ impl Solver {
         let own = clause_sentences(alloc, book.pool, book.book.rows.as_slice())?;
         let uses = table_of(alloc, classes, &own)?;
         let mut base = Trail::new(alloc, classes)?;
-        let dead = first_pass(classes, &mut base, &own, &uses, book.book.conflicts.as_slice())?;
+        let dead = first_pass(
+            classes,
+            &mut base,
+            &own,
+            &uses,
+            book.book.conflicts.as_slice(),
+        )?;
         Ok(Solver {
             classes,
             own,

@@ -1,17 +1,16 @@
 -- What the report of a comparison means.
-use Rattle.std.proofs.Common.{◌≡◌, Bool, true, false, List, [], ◌∷◌, ap, refl, subst, ◌∙◌}
+use Rattle.std.proofs.Common.{◌≡◌, Bool, true, false, not, List, [], ◌∷◌, ap, refl, subst, ◌∙◌}
 use Rattle.std.specs.{Prelude.{if◌then◌else◌, filter, length}, List.{list_any}}
 use Rattle.suite_compare.specs.{Asking.{verdict_in}, declared.report.ReportLine.{ReportLine}}
 use Rattle.suite_compare.specs.{declared.report.ReportLine.TheVariants.{Broken1, Broken2, Open1, Open2}, Refusals.{home_in, packages_in}}
-use Rattle.suite_compare.proofs.Deciding.{verdict_is_judged}
-use Rattle.headline.specs.{Indexes.{SearchedIndex, searched}, Listing.{HasNoOpenLine, ListsExactly, is_broken}}
-use Rattle.headline.proofs.{Exact.{report_lists_exactly}, Lost.{empty_list_loses_nothing, without_open_lines}}
+use Rattle.suite_compare.specs.{Indexes.{Judged, SearchedIndex, searched}, Listing.{HasNoOpenLine, ListsExactly, is_broken}}
+use Rattle.suite_compare.proofs.{Deciding.{verdict_is_judged}, Exact.{report_lists_exactly}, Lost.{empty_list_loses_nothing, without_open_lines}}
 use Rattle.coinst_run.proofs.{Prints.{exact_lists_print_exactly, lines_are_cut}, AnswerMeant.{told_means}, Given.{at_end, kernel_read}}
 use Rattle.listed.specs.Lists.{In}
 use Rattle.listed.proofs.Lists.{In_none, filter_from}
 use Rattle.coinst_run.specs.declared.answer.ReportVerdict.TheVariants.{Done, Negative, Undecided}
 use Rattle.coinst_run.specs.{Compare.{broken_lines, compare_answer, lines_answer, newer_course}, CompareMeaning.{CompareIsMeant, CompareMeans}}
-use Rattle.coinst_run.specs.{CompareText.{comparison_verdict, is_open}, Index.{index_in}}
+use Rattle.coinst_run.specs.{CompareText.{comparison_verdict, is_open_line}, Index.{index_in}}
 
 -- nothing is told where the run is done
 open_not_done : (b : Bool) → (if b then Negative else (if true then Undecided else Done)) ≡ Done → ⊥
@@ -26,17 +25,20 @@ done_is_empty (Open1 name ∷ rest) e = absurd (open_not_done (list_any is_broke
 done_is_empty (Open2 first second ∷ rest) e = absurd (open_not_done (list_any is_broken rest) e)
 
 -- where no line is counted as open, none is open
-none_open : (lines : List ReportLine) → length (filter is_open lines) ≡ 0 → HasNoOpenLine lines
+none_open : (lines : List ReportLine) → length (filter is_open_line lines) ≡ 0 → HasNoOpenLine lines
 none_open lines zero =
-    let none : (line : ReportLine) → In line lines → is_open line ≡ true → ⊥ = λ line i open_is. none_among lines zero line i open_is in
-    record { names = λ name i. none (Open1 name) i refl; pairs = λ first second i. none (Open2 first second) i refl }
+    λ line i. go line (is_broken line) refl (none_among lines zero line i)
   where
+    go : (line : ReportLine) (b : Bool) → is_broken line ≡ b → (is_open_line line ≡ true → ⊥) → is_broken line ≡ true
+    go line true e none = e
+    go line false e none = absurd (none (ap not e))
+
     no_items : (xs : List ReportLine) → length xs ≡ 0 → xs ≡ []
     no_items [] e = refl
     no_items (x ∷ xs) e = absurd (let k : ⊥ = cc in k)
 
-    none_among : (lines : List ReportLine) → length (filter is_open lines) ≡ 0 → (line : ReportLine) → In line lines → is_open line ≡ true → ⊥
-    none_among lines zero line i up = In_none (subst (In line) (no_items (filter is_open lines) zero) (filter_from is_open lines line i up))
+    none_among : (lines : List ReportLine) → length (filter is_open_line lines) ≡ 0 → (line : ReportLine) → In line lines → is_open_line line ≡ true → ⊥
+    none_among lines zero line i up = In_none (subst (In line) (no_items (filter is_open_line lines) zero) (filter_from is_open_line lines line i up))
 
 pub compare_is_meant : CompareIsMeant
 unfolding broken_lines
@@ -47,7 +49,7 @@ compare_is_meant old new budget limit hold readings verdict printed e =
     let end = at_end verdict printed (lines_answer lines) second.1 second.4 in
     let older : SearchedIndex = searched first.0 budget limit hold in
     let newer : SearchedIndex = searched second.0 budget limit hold in
-    let exact : ListsExactly older newer lines = report_lists_exactly older newer (verdict_in limit hold (home_in first.0) (packages_in first.0) budget) (verdict_in limit hold (home_in second.0) (packages_in second.0) budget)
+    let exact : ListsExactly Judged older newer lines = report_lists_exactly older newer (verdict_in limit hold (home_in first.0) (packages_in first.0) budget) (verdict_in limit hold (home_in second.0) (packages_in second.0) budget)
     (λ goals. verdict_is_judged limit hold (home_in first.0) (packages_in first.0) budget goals) (λ goals. verdict_is_judged limit hold (home_in second.0) (packages_in second.0) budget goals) in (
       first.0,
       second.0,
@@ -55,12 +57,12 @@ compare_is_meant old new budget limit hold readings verdict printed e =
       told_means (CompareMeans first.0 second.0 budget limit hold) (lines_answer lines) verdict printed end.1 record {
         old_accepted = first.3;
         new_accepted = second.3;
-        prints = exact_lists_print_exactly older newer lines first.3 exact;
+        prints = exact_lists_print_exactly first.0 budget limit hold newer first.3 lines exact;
         lines = lines;
         exact = exact;
-        cut = lines_are_cut older newer lines first.3 exact;
+        cut = lines_are_cut first.0 budget limit hold newer first.3 lines exact;
         losses = λ zero. without_open_lines older newer lines exact (none_open lines zero);
-        nothing_lost = λ done. empty_list_loses_nothing older newer (subst (ListsExactly older newer) (done_is_empty lines done) exact);
+        nothing_lost = λ done. empty_list_loses_nothing older newer (subst (ListsExactly Judged older newer) (done_is_empty lines done) exact);
         reads = refl;
         whole = refl;
       },

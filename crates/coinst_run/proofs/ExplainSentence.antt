@@ -1,6 +1,7 @@
 -- The sentence of `explain`, from what its report means.
-use Rattle.std.proofs.Common.{◌≡◌, ℕ, ◌+◌, ◌-◌, ◌<◌, ◌≤◌, Bool, true, false, cond, List, [], ◌∷◌, ◌++◌, Option, Some, None, length, map, refl, sym, ap, ap₂, subst, ◌∙◌, arith, inl, inr}
-use Rattle.std.proofs.lemmas.List.{length-map, map-append}
+use Rattle.suite_compare.specs.Indexes.{SearchedIndex}
+use Rattle.std.proofs.Common.{◌≡◌, ℕ, ◌+◌, ◌-◌, ◌<◌, ◌≤◌, Bool, true, cond, List, [], ◌∷◌, ◌++◌, Option, Some, None, length, map, refl, sym, ap, ap₂, subst, ◌∙◌, arith}
+use Rattle.std.proofs.lemmas.List.{length-map}
 use Rattle.std.specs.{Prelude.{codes, option_map, unwrap_or, IfSome}, Fmt.{decimal}, List.{flat_map}, Option.{option_map_or}}
 use Rattle.byte_flow.specs.History.{OpenedFile}
 use Rattle.coinst_words.specs.{Jobs.{job_of}, Usage.{Text}, declared.job.Job.TheVariants.{Explain}}
@@ -8,24 +9,20 @@ use Rattle.deb_version.specs.Names.{is_name}
 use Rattle.clause_solver.specs.declared.outcomes.Verdict.{Verdict}
 use Rattle.clause_solver.specs.declared.outcomes.Verdict.TheVariants as verdict
 use Rattle.explain_core.specs.{Core.{goal_core, goal_numbered, marked_goals, marks_of}, Explaining.{clashes_for, explained_by}, Meaning.{IsCoreOf}, Only.{pair}}
-use Rattle.explain_core.specs.{Reasons.{clashes_of, conflicts_reached, reasons_of}, OnStanzas.{AreEnough, CoinstButFor, HealthyButFor, IsTellable}}
-use Rattle.explain_core.specs.{Picking.{ArePlacesFrom1}, declared.explanation.Clash.{Clash}, declared.explanation.Explanation.TheVariants.{Core}}
-use Rattle.explain_core.specs.declared.explanation.Mark.{Mark}
+use Rattle.explain_core.specs.{Reasons.{clashes_of, conflicts_reached, reasons_of}, OnStanzas.{AreEnough, IsTellable}, Picking.{ArePlacesFrom1}}
+use Rattle.explain_core.specs.{declared.explanation.Clash.{Clash}, declared.explanation.Explanation.TheVariants.{Core}, declared.explanation.Mark.{Mark}}
 use Rattle.explain_core.proofs.Tellable.{explanation_tellable}
-use Rattle.headline.specs.Indexes.{searched}
+use Rattle.suite_compare.specs.{Indexes.{searched}, Asking.{verdict_in, wanted_by}, Refusals.{home_in, packages_in}}
 use Rattle.kernel_text.specs.KernelLines.{with_feed}
 use Rattle.listed.specs.Lists.{In, here, there}
-use Rattle.listed.proofs.Lists.{In_cases}
 use Rattle.relation_fields.specs.declared.packages.PackageFacts.{PackageFacts}
 use Rattle.repo_model.specs.{FirstFault.{first_fault}, Goals.{any_version, goal_of}, Repository.{suite_repository}, Stanzas.{stanza_at}}
 use Rattle.repo_model.specs.declared.goals.Goal.{Goal}
-use Rattle.suite_compare.specs.{Asking.{verdict_in, wanted_by}, Refusals.{home_in, packages_in}}
-use Rattle.claims.specs.Asked.{ComparedIndex}
-use Rattle.claims.specs.Explained.{AreConflictsFor, AreKept, AreReasonsFor, CouldMeet, IsCoreOfGoals, IsTooLongWith, PrintedGoal, clashes_printed, printed_clashes, printed_core, kept_words}
-use Rattle.claims.specs.{Goals.{CanMeet}, Laws.{suite_of}, Sentences.{ExplainIsTrue, IsFaithfulExplanation}, Settled.{IsPastBudget}}
+use Rattle.claims.specs.Explained.{AreConflictsFor, AreKept, AreReasonsFor, CouldMeet, IsCoreOfGoals, IsTooLongWith, PrintedGoal, as_clashes, clashes_printed, printed_clashes, printed_core, kept_words}
+use Rattle.claims.specs.{Goals.{CanMeet}, Sentences.{ExplainIsTrue, IsFaithfulExplanation}, Settled.{IsPastBudget}}
 use Rattle.claims.specs.Sentences.IsFaithfulExplanation.{yes as yes_printed, core as core_printed, undecided as undecided_printed}
-use Rattle.claims.proofs.{AskingWords.{explain_words_ask}, Cores.{conflicts_are_kept, each_wanted, goals_are_kept, printed_goal}}
-use Rattle.claims.proofs.{Goals.{AreGoals, word_at, word_is}, Index.{indexes_are_read}, Meeting.{can_meet, each_from, each_to, meets_goals}}
+use Rattle.claims.proofs.{AskingWords.{explain_words_ask}, Cores.{conflicts_are_kept, could_to, each_wanted, goals_are_kept, printed_goal}}
+use Rattle.claims.proofs.{Goals.{AreGoals, word_at, word_is}, Index.{indexes_are_read}, Meeting.{can_meet, meets_goals}}
 use Rattle.coinst_run.specs.{Status.{code_of, verdict_status}, declared.answer.ReportVerdict.{ReportVerdict}}
 use Rattle.coinst_run.specs.{declared.answer.ReportVerdict.TheVariants.{Done, Negative, Undecided}, ExplainMeaning.{ExplainMeans, MeansExplained}}
 use Rattle.coinst_run.specs.{ExplainText.{core_text, clash_count, clashes_text, goal_line, yes_line}, Meaning.{IsMeant, MeansJob}}
@@ -43,29 +40,9 @@ version_told (Some version) = refl
 goal_told : (word : Text) (goal : Goal) → goal_of word ≡ Some goal → goal_word goal ≡ word
 goal_told word goal e = ap (λ v. goal.name ++ v) (version_told goal.version) ∙ word_is word goal e
 
--- a split of what a function gives is one of its list
-record IsSplitOf {A B : Type 0} (f : A → B) (xs : List A) (before after : List B) (y : B) : Type 0 where
-  front : List A
-  item : A
-  back : List A
-  whole : xs ≡ front ++ item ∷ back
-  of_front : map f front ≡ before
-  of_item : f item ≡ y
-  of_back : map f back ≡ after
-
-split_of : {A B : Type 0} (f : A → B) (xs : List A) (before after : List B) (y : B) → map f xs ≡ before ++ y ∷ after → IsSplitOf f xs before after y
-split_of f [] [] after y e = absurd (let no : ⊥ = cc in no)
-split_of f [] (b ∷ before) after y e = absurd (let no : ⊥ = cc in no)
-split_of f (x ∷ xs) [] after y e = record { front = []; item = x; back = xs; whole = refl; of_front = refl; of_item = (let is : f x ≡ y = cc in is); of_back = (let is : map f xs ≡ after = cc in is) }
-split_of f (x ∷ xs) (b ∷ before) after y e =
-    let first : f x ≡ b = cc in
-    let rest : map f xs ≡ before ++ y ∷ after = cc in
-    let s = split_of f xs before after y rest in
-    record { front = x ∷ s.front; item = s.item; back = s.back; whole = ap (λ zs. x ∷ zs) s.whole; of_front = ap₂ (λ z zs. z ∷ zs) first s.of_front; of_item = s.of_item; of_back = s.of_back }
-
 module _ (text : Text) (budget limit : ℕ) (hold : Bool) (words : List Text) (goals : List Goal) (z : AreGoals words goals) (accepted : first_fault text ≡ None) where
-  abbrev index : ComparedIndex
-  index = suite_of (searched text budget limit hold)
+  abbrev index : SearchedIndex
+  index = (searched text budget limit hold)
 
   abbrev stanzas : List PackageFacts
   stanzas = packages_in text
@@ -110,51 +87,27 @@ module _ (text : Text) (budget limit : ℕ) (hold : Bool) (words : List Text) (g
       (sym long) (counted clashes)
 
   -- the core
-  some_marks : (front : List Mark) (m : Mark) (back : List Mark) → ArePlacesFrom1 (length goals) (front ++ m ∷ back) → ArePlacesFrom1 (length goals) (front ++ back)
-  some_marks [] m back p o i = p o (there i)
-  some_marks (x ∷ front) m back p o i = elim (In_cases i) [
-    | inl same ↦ p o (subst (λ y. In y (x ∷ (front ++ m ∷ back))) (sym same) here)
-    | inr j ↦ some_marks front m back (λ q k. p q (there k)) o j
-  ]
-
   core_so : (marks : List Mark) → ArePlacesFrom1 (length goals) marks → marks ≡ core_marks → IsCoreOf (home_in text) stanzas goals marks → IsCoreOfGoals index words (all_printed words marks)
   core_so marks p same_marks c = record {
     asked =
-        subst (λ ms. AreKept (λ (g : PrintedGoal). g.word) (λ (g : PrintedGoal). g.undecided) (IsPastBudget index) [] words (all_printed words ms)) (sym same_marks)
+        subst (λ ms. AreKept (λ (g : PrintedGoal). g.word) (λ (g : PrintedGoal). g.undecided) (IsPastBudget index) (CanMeet index) [] words (all_printed words ms)) (sym same_marks)
         (goals_are_kept (searched text budget limit hold) accepted words goals z);
     impossible = λ met. c.impossible (meets_goals index (kept_words (all_printed words marks)) (marked_goals goals marks) (marked marks p) known_names met);
-    needed = λ before after t e closed.
-        let w = split_of (printed_goal words) marks before after t e in
-        let open_same : (w.item).unsettled ≡ false = ap (λ (g : PrintedGoal). g.undecided) w.of_item ∙ closed in
-        let rest : List Mark = w.front ++ w.back in
-        let places : ArePlacesFrom1 (length goals) rest = some_marks w.front w.item w.back (subst (ArePlacesFrom1 (length goals)) w.whole p) in
-        let met : CanMeet index (kept_words (all_printed words rest)) = can_meet index (kept_words (all_printed words rest)) (marked_goals goals rest) (marked rest places) (c.needed w.front w.back w.item w.whole open_same) in
-        let same : all_printed words rest ≡ before ++ after = map-append (printed_goal words) w.front w.back ∙ ap₂ (λ x y. x ++ y) w.of_front w.of_back in
-        subst (λ told. CanMeet index (kept_words told)) same met;
   }
 
   -- the reasons
-  could_from : (clashes : List Clash) (some : List Text) (picked : List Goal) → AreGoals some picked → CoinstButFor (home_in text) stanzas clashes picked → CouldMeet index clashes some
-  could_from clashes some picked y c = (c.whole, c.healthy, each_from stanzas c.whole some picked y c.serves)
-
-  could_to : (clashes : List Clash) (some : List Text) (picked : List Goal) → AreGoals some picked → CouldMeet index clashes some → CoinstButFor (home_in text) stanzas clashes picked
-  could_to clashes some picked y c =
-      let healthy : HealthyButFor (home_in text) stanzas clashes c.0 = c.1 in
-      record { whole = c.0; healthy = healthy; serves = each_to stanzas c.0 some picked y (λ n i. known_names n (healthy.numbers n i)) c.2 }
-
   module _ (some : List Text) (picked : List Goal) (y : AreGoals some picked) where
     abbrev wanted : List (List ℕ)
     wanted = wanted_by stanzas picked
 
     abbrev AreKeptPairs : List Clash → Type 0
-    AreKeptPairs clashes = AreKept (λ c. pair c.first c.second) (λ c. c.unsettled) (IsTooLongWith index wanted) [] (conflicts_reached (suite_repository (home_in text) stanzas) wanted) clashes
+    AreKeptPairs clashes = AreKept (λ c. pair c.first c.second) (λ c. c.unsettled) (IsTooLongWith index wanted) (λ pairs. CouldMeet index (as_clashes pairs) some) [] (conflicts_reached (suite_repository (home_in text) stanzas) wanted) clashes
 
     reasons_so : (clashes : Option (List Clash)) → IfSome clashes AreKeptPairs → IfSome clashes (AreEnough (home_in text) stanzas picked) → IfSome clashes (AreReasonsFor index some wanted)
     reasons_so None kept r = tt
     reasons_so (Some clashes) kept r = record {
       conflicts = r.conflicts;
-      enough = λ c. r.enough (could_to clashes some picked y c);
-      needed = λ before after c e closed. could_from (before ++ after) some picked y (r.needed before after c e closed);
+      enough = λ c. r.enough (could_to (searched text budget limit hold) accepted some picked y clashes c);
       kept = kept;
     }
 
@@ -192,7 +145,7 @@ explain_is_true words readings verdict printed m budget limit hold path goals lo
     let w = explain_words_ask budget limit hold low small path goals m.job o (ap job_of (sym is) ∙ m.asked) in
     let means : MeansJob (Explain path w.0 b n hold) readings verdict printed = subst (λ j. MeansJob j readings verdict printed) w.2 m.means in
     let k : ExplainMeans means.0 w.0 b n hold verdict printed = means.2 in (
-      suite_of (searched means.0 b n hold),
+      (searched means.0 b n hold),
       means.1,
       indexes_are_read means.0 k.accepted,
       (refl, refl, refl),

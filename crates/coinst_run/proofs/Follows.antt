@@ -3,8 +3,8 @@ use Rattle.std.proofs.Common.{◌≡◌, ℕ, ◌<◌, ◌≤◌, Bool, List, le
 use Rattle.std.specs.Prelude.{IfOk, IfSome, IsNone, IsSomeAnd, OnOk}
 use Rattle.byte_flow.specs.{Flow.{FileIs, FileIsLonger, Files, LacksFile, Rose}, Models.{ShelfModel}, Transfer.{GivesUp, OnFailed, OnTooLong}}
 use Rattle.byte_flow.specs.{declared.transfer.ReadError.{ReadError}, declared.transfer.ReadError.TheVariants.{Failed, TooLong, Memory}}
-use Rattle.coinst_run.specs.{Answer.{Answer, Stage}, Course.{Course, answers, reads, then_on}, Ending.{IsReadEnding, Settles, StopsAt}}
-use Rattle.coinst_run.specs.Follows.{Follows, LeadsTo, ReachesIndex, ReachesKernel, WasRead, WasTooLong, WasUnread, at_its_end, behind_a_text, at_an_unread_file, at_a_long_file, without_memory, without_memory_for_a_file}
+use Rattle.coinst_run.specs.{Answer.{Answer, CourseStage}, Course.{Course, answers, reads, then_on}, Ending.{IsReadEnding, Settles, StopsAt}}
+use Rattle.coinst_run.specs.Follows.{Follows, LeadsToRest, ReachesIndex, ReachesKernel, WasRead, WasTooLong, WasUnread, at_its_end, behind_a_text, at_an_unread_file, at_a_long_file, without_memory, without_memory_for_a_file}
 use Rattle.coinst_run.specs.{Index.{Index, checked_index, reads_index}, IndexKernel.{ClassedKernel, index_kernel}, Kernel.{kernel_of, reads_kernel}}
 use Rattle.coinst_run.specs.Outcome.{Outcome, answered, unread, not_a_command, file_limit, outcome_over, over_file, too_long}
 use Rattle.coinst_run.proofs.Ends.{EndsAs}
@@ -36,14 +36,14 @@ told_longer None files path is h = absurd cc
 told_longer (Some told) files path is h = let same : told ≡ files = cc in subst (λ (f : Files). IsSomeAnd (f path) (λ bytes. file_limit < length bytes)) same h
 
 -- a part that ends a command, with what would go on
-pub stopped : {A : Type 0} (stage : Stage A) (next : A → Course) (ending : Option Outcome) → StopsAt stage ending → Settles (then_on stage next) ending
+pub stopped : {A : Type 0} (stage : CourseStage A) (next : A → Course) (ending : Option Outcome) → StopsAt stage ending → Settles (then_on stage next) ending
 stopped stage next None h = tt
 stopped stage next (Some (answered answer)) h = ap (λ x. then_on x next) h
 stopped stage next (Some (unread path)) h = absurd h
 stopped stage next (Some not_a_command) h = absurd h
 
 -- a part, or a course, that is refused, or no memory to say so
-pub stops_at : {A : Type 0} (stage : Stage A) (answer : Answer) (ending : Option Outcome) → stage ≡ Err answer → IfSome ending (λ o. o ≡ answered answer) → StopsAt stage ending
+pub stops_at : {A : Type 0} (stage : CourseStage A) (answer : Answer) (ending : Option Outcome) → stage ≡ Err answer → IfSome ending (λ o. o ≡ answered answer) → StopsAt stage ending
 stops_at stage answer None is h = tt
 stops_at stage answer (Some o) is h = subst (λ x. StopsAt stage (Some x)) (sym h) is
 
@@ -52,7 +52,7 @@ settles_at course answer None is h = tt
 settles_at course answer (Some o) is h = subst (λ x. Settles course (Some x)) (sym h) is
 
 -- a part that gave a value, and how what is done with it ends
-pub settled_on : {A : Type 0} (stage : Stage A) (x : A) (next : A → Course) (ending : Option Outcome) → stage ≡ Ok x → Settles (next x) ending → Settles (then_on stage next) ending
+pub settled_on : {A : Type 0} (stage : CourseStage A) (x : A) (next : A → Course) (ending : Option Outcome) → stage ≡ Ok x → Settles (next x) ending → Settles (then_on stage next) ending
 settled_on stage x next ending e h = subst (λ z. Settles (then_on z next) ending) (sym e) h
 
 module _ {S : Type 0} {M : ShelfModel S} where
@@ -139,11 +139,11 @@ module _ {S : Type 0} {M : ShelfModel S} where
       (settled_follows (then_on (checked_index path text) next) ending t (stopped (checked_index path text) next ending h))
 
   -- a text that was read, and the course goes on
-  pub text_passed : (path text : List ℕ) (next : List ℕ → Course) (s t : S) → WasRead M s path text t → LeadsTo M (reads path next) s (next text) t
+  pub text_passed : (path text : List ℕ) (next : List ℕ → Course) (s t : S) → WasRead M s path text t → LeadsToRest M (reads path next) s (next text) t
   text_passed path text next s t w ending u f = behind_a_text path text next s t u ending w f
 
   -- a part that gave a value, and the course goes on
-  pub stage_passed : {A : Type 0} (stage : Stage A) (x : A) (next : A → Course) (s : S) → stage ≡ Ok x → LeadsTo M (then_on stage next) s (next x) s
+  pub stage_passed : {A : Type 0} (stage : CourseStage A) (x : A) (next : A → Course) (s : S) → stage ≡ Ok x → LeadsToRest M (then_on stage next) s (next x) s
   stage_passed stage x next s e ending u f = subst (λ z. Follows M (then_on z next) s ending u) (sym e) f
 
   -- an index and its kernel, and an index of which there is none

@@ -6,11 +6,11 @@ use Rattle.row_book.specs.Rounds.{PassedRound, limit_at}
 use Rattle.suite_compare.specs.Refusals.{home_in, packages_in}
 use Rattle.coinst_run.specs.{declared.answer.ReportVerdict.{ReportVerdict}, Answer.{Answer, reported}, Course.{Course, answers, reads, then_on}}
 use Rattle.coinst_run.specs.{Index.{Index, by_fault, checked_index, index_in}, IndexKernel.{ClassedKernel, index_kernel}}
-use Rattle.coinst_run.specs.{Kernel.{by_limit, kernel_of, reads_kernel}, Migrate.{kernel_at, kernel_behind}, Outcome.{Gives, at_once, by_text}}
+use Rattle.coinst_run.specs.{Kernel.{by_limit, kernel_of, reads_kernel}, Migrate.{kernel_at, kernel_behind}, Outcome.{GivesAnswer, at_once, by_text}}
 
 module _ (verdict : ReportVerdict) (printed : List ℕ) where
   abbrev pub Reported : Course → List OpenedFile → Type 0
-  Reported course readings = Gives course readings (reported verdict printed)
+  Reported course readings = GivesAnswer course readings (reported verdict printed)
 
   -- a course that answers reads no more
   pub at_end : (answer : Answer) (readings : List OpenedFile) → Reported (answers answer) readings → (readings ≡ []) × (answer ≡ reported verdict printed)

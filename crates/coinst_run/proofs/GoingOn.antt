@@ -5,7 +5,7 @@ use Rattle.byte_flow.specs.Flow.{Files}
 use Rattle.repo_model.specs.{declared.fault.IndexFault.{IndexFault}, FirstFault.{first_fault}, Repository.{suite_repository}}
 use Rattle.row_book.specs.Rounds.{PassedRound, limit_at}
 use Rattle.suite_compare.specs.Refusals.{home_in, packages_in}
-use Rattle.coinst_run.specs.{declared.answer.ReportVerdict.{ReportVerdict}, Answer.{reported}, Present.{HasFile, HasKernel, IsWithin}}
+use Rattle.coinst_run.specs.{declared.answer.ReportVerdict.{ReportVerdict}, Answer.{reported}, Present.{HasFile, HasKernel, IsWithinLimit}}
 use Rattle.coinst_run.specs.{Course.{Course, reads, then_on}, Delivers.{IsStop}, Index.{Index, by_fault, checked_index, index_in}}
 use Rattle.coinst_run.specs.{IndexKernel.{ClassedKernel, index_kernel}, Kernel.{by_limit, kernel_of, reads_kernel}, Migrate.{kernel_at, kernel_behind}}
 use Rattle.coinst_run.specs.Outcome.{Outcome, answered, file_limit, outcome_over, over_file, too_long, unread}
@@ -33,11 +33,11 @@ module _ (P : Outcome → Type 0) (only : (o : Outcome) → P o → IsStop o →
       by (Some fault) is g = absurd (only _ g tt)
 
   pub limit_used : (path : List ℕ) (limit : ℕ) (hold : Bool) (text : List ℕ) (next : ClassedKernel → Course) → P (outcome_over files (then_on (kernel_of path limit hold (index_in text)) next)) →
-      IsWithin limit hold text × P (outcome_over files (next (index_kernel limit hold (home_in text) (packages_in text))))
+      IsWithinLimit limit hold text × P (outcome_over files (next (index_kernel limit hold (home_in text) (packages_in text))))
   limit_used path limit hold text next g = by (limit_at limit hold (suite_repository (home_in text) (packages_in text))) refl g
     where
       by : (passed : Option PassedRound) → limit_at limit hold (suite_repository (home_in text) (packages_in text)) ≡ passed → P (outcome_over files (then_on (by_limit path limit hold (index_in text) passed) next)) →
-          IsWithin limit hold text × P (outcome_over files (next (index_kernel limit hold (home_in text) (packages_in text))))
+          IsWithinLimit limit hold text × P (outcome_over files (next (index_kernel limit hold (home_in text) (packages_in text))))
       by None is g = (is, g)
       by (Some passed) is g = absurd (only _ g tt)
 
@@ -47,15 +47,15 @@ module _ (P : Outcome → Type 0) (only : (o : Outcome) → P o → IsStop o →
       let onward : Index → Course = λ index. then_on (kernel_of path limit hold index) (next index) in
       let w : (text : List ℕ) × HasFile files path text × P (outcome_over files (then_on (checked_index path text) onward)) = file_used path (λ text. then_on (checked_index path text) onward) g in
       let c : (first_fault w.0 ≡ None) × P (outcome_over files (onward (index_in w.0))) = checked_used path onward w.0 w.2 in
-      let k : IsWithin limit hold w.0 × P (outcome_over files (next (index_in w.0) (index_kernel limit hold (home_in w.0) (packages_in w.0)))) = limit_used path limit hold w.0 (next (index_in w.0)) c.1 in
+      let k : IsWithinLimit limit hold w.0 × P (outcome_over files (next (index_in w.0) (index_kernel limit hold (home_in w.0) (packages_in w.0)))) = limit_used path limit hold w.0 (next (index_in w.0)) c.1 in
       (w.0, (record { file = w.1; accepted = c.0 }, k.0), k.1)
 
   pub kernel_at_used : (path : List ℕ) (limit : ℕ) (hold : Bool) (text : List ℕ) (next : ClassedKernel → Course) → P (outcome_over files (then_on (kernel_at path limit hold text) next)) →
-      (first_fault text ≡ None) × IsWithin limit hold text × P (outcome_over files (next (index_kernel limit hold (home_in text) (packages_in text))))
+      (first_fault text ≡ None) × IsWithinLimit limit hold text × P (outcome_over files (next (index_kernel limit hold (home_in text) (packages_in text))))
   kernel_at_used path limit hold text next g = by (first_fault text) refl g
     where
       by : (fault : Option IndexFault) → first_fault text ≡ fault → P (outcome_over files (then_on (kernel_behind path limit hold (by_fault path text fault)) next)) →
-          (first_fault text ≡ None) × IsWithin limit hold text × P (outcome_over files (next (index_kernel limit hold (home_in text) (packages_in text))))
+          (first_fault text ≡ None) × IsWithinLimit limit hold text × P (outcome_over files (next (index_kernel limit hold (home_in text) (packages_in text))))
       by None is g = let k = limit_used path limit hold text next g in (is, k.0, k.1)
       by (Some fault) is g = absurd (only _ g tt)
 

@@ -15,7 +15,7 @@ use Rattle.row_book.proofs.Numbers.{length_numbers, numbers_parts}
 use Rattle.kernel_text.specs.{KernelJson.{kernel_json}, KernelText.{format_of, kernel_text}, Members.{kernel_members}}
 use Rattle.coinst_run.specs.{declared.answer.Cause.{Cause}, declared.answer.Cause.TheVariants.{ClauseLimit}, Answer.{refused}, Faults.{fault_cause}}
 use Rattle.coinst_run.specs.{Index.{Index, by_fault, checked_index}, IndexKernel.{ClassedKernel, classed_kernel, index_kernel, json_for, text_for}}
-use Rattle.coinst_run.specs.{Kernel.{FitsSuite, by_limit, kernel_in, kernel_of}, Lines.{about, fault_line, limit_line, row_text, stage_text}}
+use Rattle.coinst_run.specs.{Kernel.{FitsSuite, by_limit, classed_in, kernel_of}, Lines.{about, fault_line, limit_line, row_text, stage_text}}
 use Rattle.kernel_rounds.proofs.Classes.{class_within}
 
 -- the packages that were read are those of the text
@@ -47,7 +47,7 @@ module _ (v : SuiteView) where
   abbrev R : Repository
   R = suite_repository v.suite.home v.suite.packages
 
-  pub view_kernel : kernel_in v.pool v.kernel ≡ index_kernel v.limit v.kernel.hold v.suite.home v.suite.packages
+  pub view_kernel : classed_in v.pool v.kernel ≡ index_kernel v.limit v.kernel.hold v.suite.home v.suite.packages
   unfolding index_kernel classed_kernel
   view_kernel =
       let all : Repository → List ℕ → List ℕ → ClassedKernel = λ r c ns. record { repository = r; class_of = c; hold = v.kernel.hold; held = ns } in

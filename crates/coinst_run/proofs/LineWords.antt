@@ -3,14 +3,14 @@ use Rattle.std.proofs.Common.{◌≡◌, ℕ, zero, suc, ◌==◌, ◌+◌, ◌/
 use Rattle.std.proofs.{lemmas.Bool.{and_parts, and_from, not-true, not_from_false, false_from_ne_true}, lemmas.List.{append-nil, append_assoc}}
 use Rattle.std.proofs.lemmas.List.Folds.{list_all-append}
 use Rattle.std.specs.{Prelude.{if◌then◌else◌, nat_lt}, Fmt.{decimal, digits, digits_onto, digit_glyph}, List.{flat_map, list_all}}
-use Rattle.coinst_run.specs.CompareText.{comparison_line, comparison_text, end_text, is_open}
-use Rattle.headline.specs.{Listing.{is_broken}, Indexes.{Name}}
+use Rattle.coinst_run.specs.CompareText.{comparison_line, comparison_text, end_text, is_open_line}
+use Rattle.suite_compare.specs.{Listing.{is_broken}, Indexes.{Name}, declared.report.ReportLine.{ReportLine}}
+use Rattle.suite_compare.specs.declared.report.ReportLine.TheVariants.{Broken1, Broken2, Open1, Open2}
 use Rattle.deb_version.specs.Names.{is_name}
 use Rattle.kernel_text.specs.KernelLines.{lines_of}
 use Rattle.kernel_text.proofs.{Spelling.{Plain, cut_same, name_plain}, LineCuts.{no_feed, one_line, no_feed_byte, no_feed_both, no_feed_plain}}
 use Rattle.listed.specs.Lists.{In, here, there}
 use Rattle.listed.proofs.Lists.{In_cases, In_none, In_append_cases, In_append_left, In_map, In_map_cases}
-use Rattle.suite_compare.specs.{declared.report.ReportLine.{ReportLine}, declared.report.ReportLine.TheVariants.{Broken1, Broken2, Open1, Open2}}
 
 glyph_fed : (d : ℕ) → not (digit_glyph false d == 10) ≡ true
 glyph_fed d = by (nat_lt d 10)
@@ -84,13 +84,13 @@ texts (x ∷ xs) rest h =
     ∙ ap (λ z. comparison_line x ∷ z) (texts xs rest (λ line i. h line (there i)))
 
 end_body : List ReportLine → List ℕ
-end_body lines = codes "end " ++ decimal (length (filter is_broken lines)) ++ codes " " ++ decimal (length (filter is_open lines))
+end_body lines = codes "end " ++ decimal (length (filter is_broken lines)) ++ codes " " ++ decimal (length (filter is_open_line lines))
 
 end_line : (lines : List ReportLine) → lines_of (end_text lines) ≡ end_text lines ∷ []
 unfolding end_text end_body
 end_line lines =
     ap lines_of (sym (append-nil (end_body lines ++ 10 ∷ [])))
-    ∙ one_line (end_body lines) [] (no_feed_both (codes "end " ++ decimal (length (filter is_broken lines)) ++ codes " ") (decimal (length (filter is_open lines))) (no_feed_both (codes "end " ++ decimal (length (filter is_broken lines))) (codes " ") (number_fed (length (filter is_broken lines))) refl) (number_fed (length (filter is_open lines))))
+    ∙ one_line (end_body lines) [] (no_feed_both (codes "end " ++ decimal (length (filter is_broken lines)) ++ codes " ") (decimal (length (filter is_open_line lines))) (no_feed_both (codes "end " ++ decimal (length (filter is_broken lines))) (codes " ") (number_fed (length (filter is_broken lines))) refl) (number_fed (length (filter is_open_line lines))))
 
 pub lines_are : (lines : List ReportLine) → AreNamed lines → lines_of (comparison_text lines) ≡ map comparison_line lines ++ end_text lines ∷ []
 unfolding comparison_text

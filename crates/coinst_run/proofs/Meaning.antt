@@ -10,7 +10,7 @@ use Rattle.claims.proofs.PrintedKernels.{keeps, reads, stands}
 use Rattle.suite_compare.specs.Refusals.{home_in, packages_in}
 use Rattle.coinst_run.specs.{declared.answer.ReportVerdict.{ReportVerdict}, declared.answer.ReportVerdict.TheVariants.{Done}, Answer.{reported}}
 use Rattle.coinst_run.specs.{IndexKernel.{classed_kernel, index_kernel, json_for, members_for, text_for}, Kernel.{kernel_answer}, KernelMeaning.{KernelMeans}}
-use Rattle.coinst_run.specs.{Meaning.{JsonMeans, MeansJob, course_of}, Outcome.{Gives}}
+use Rattle.coinst_run.specs.{Meaning.{JsonMeans, MeansJob, course_of}, Outcome.{GivesAnswer}}
 use Rattle.coinst_words.specs.{declared.job.Job.{Job}, declared.job.Job.TheVariants.{Kernel, Query, StoredQuery, Compare, Explain, Status, Migrate, Sample}}
 use Rattle.coinst_run.proofs.{CompareMeant.{compare_is_meant}, ExplainMeant.{explain_is_meant}, MigrateMeant.{migrate_is_meant}}
 use Rattle.coinst_run.proofs.{QueryMeant.{query_is_meant, formed}, AnswerMeant.{told_means}, Given.{at_end, kernel_read}, SampleMeaning.{sample_report_means}}
@@ -50,7 +50,7 @@ index_json_means limit hold text e =
 
 -- the report of the command, as text and as JSON
 kernel_report_means : (path : List ℕ) (json : Bool) (limit : ℕ) (hold : Bool) (readings : List OpenedFile) (verdict : ReportVerdict) (report : List ℕ) →
-    Gives (course_of (Kernel path json limit hold)) readings (reported verdict report) → MeansJob (Kernel path json limit hold) readings verdict report
+    GivesAnswer (course_of (Kernel path json limit hold)) readings (reported verdict report) → MeansJob (Kernel path json limit hold) readings verdict report
 kernel_report_means path false limit hold readings verdict report e =
     let first = kernel_read verdict report path limit hold (kernel_answer false) readings e in
     let text : List ℕ = text_for (packages_in first.0) (index_kernel limit hold (home_in first.0) (packages_in first.0)) in
@@ -67,7 +67,7 @@ kernel_report_means path true limit hold readings verdict report e =
     (first.0, first.2 ∙ ap (λ rest. (path, first.0) ∷ rest) end.0, means.0, means.1)
 
 -- what the report on a job means
-pub report_means : (job : Job) (readings : List OpenedFile) (verdict : ReportVerdict) (report : List ℕ) → Gives (course_of job) readings (reported verdict report) → MeansJob job readings verdict report
+pub report_means : (job : Job) (readings : List OpenedFile) (verdict : ReportVerdict) (report : List ℕ) → GivesAnswer (course_of job) readings (reported verdict report) → MeansJob job readings verdict report
 report_means (Kernel path json limit hold) readings verdict report e = kernel_report_means path json limit hold readings verdict report e
 report_means (Query path goals budget limit hold) readings verdict report e = query_is_meant path goals budget limit hold readings verdict report e
 report_means (StoredQuery path goals budget) readings verdict report e = stored_query_is_meant path goals budget readings verdict report e

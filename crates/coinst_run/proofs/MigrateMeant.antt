@@ -1,7 +1,7 @@
 -- What the report on a plan means.
 use Rattle.std.proofs.Common.{◌≡◌, ℕ, List, [], ◌∷◌, Option, Some, None, ap, refl, ◌∙◌}
 use Rattle.byte_flow.specs.History.{OpenedFile}
-use Rattle.migrate_plan.specs.{Plan.{plan, settings_of}, Refusals.{plan_refusal}, declared.plan.PlanLine.{PlanLine}, declared.refusals.PlanError.{PlanError}}
+use Rattle.migrate_plan.specs.{Plan.{plan, plan_settings}, Refusals.{plan_refusal}, declared.plan.PlanLine.{PlanLine}, declared.refusals.PlanError.{PlanError}}
 use Rattle.migrate_plan.specs.declared.refusals.PlanError.TheVariants.{Homes, Names, Packages, TooLong, Memory}
 use Rattle.migrate_plan.proofs.{Mixed.{mixes_are_indexes}, Planned.{plan_names, plan_right, plan_safe}}
 use Rattle.suite_compare.specs.Refusals.{home_in, packages_in}
@@ -22,7 +22,7 @@ plan_used verdict report readings old new lines None g = let e = at_end verdict 
 
 pub migrate_is_meant : MigrateIsMeant
 migrate_is_meant old new budget limit hold readings verdict printed e =
-    let settings = settings_of budget limit hold in
+    let settings = plan_settings budget limit hold in
     let first = file_read verdict printed old (old_answer old new settings) readings e in
     let made = kernel_at_read verdict printed old limit hold first.0 (λ kernel. new_course old new settings first.0) first.1 first.3 in
     let second = file_read verdict printed new (new_answer old new settings first.0) first.1 made.1 in

@@ -1,29 +1,27 @@
 -- The sentence of `migrate`, from what its report means.
+use Rattle.suite_compare.specs.{Indexes.{HasPackageOf, Judged, SearchedIndex, searched}, Listing.{BothHave, ListsExactly, LosesNothing, is_broken}}
+use Rattle.suite_compare.specs.{Asking.{verdict_in}, Refusals.{home_in, packages_in}, declared.report.ReportLine.{ReportLine}}
 use Rattle.std.proofs.Common.{◌≡◌, ℕ, ◌+◌, ◌-◌, ◌≤◌, Bool, true, false, cond, ◌||◌, List, [], ◌∷◌, ◌++◌, None, filter, length, map, refl, sym, ap, ap₂, subst, ◌∙◌, arith, append_assoc, inl, inr}
 use Rattle.std.proofs.lemmas.List.{append-nil}
 use Rattle.std.specs.{Prelude.{codes, unwrap_or}, List.{flat_map, list_any}}
 use Rattle.byte_flow.specs.History.{OpenedFile}
 use Rattle.clause_pool.specs.Lists.{InOrder}
 use Rattle.coinst_words.specs.{Jobs.{job_of}, Usage.{Text}, declared.job.Job.TheVariants.{Migrate}}
-use Rattle.headline.specs.{Indexes.{searched}, Listing.{BothHave, ListsExactly, LosesNothing, is_broken}}
-use Rattle.headline.proofs.Exact.{report_lists_exactly}
+use Rattle.suite_compare.proofs.{Exact.{report_lists_exactly}, Deciding.{verdict_is_judged}}
 use Rattle.kernel_text.specs.KernelLines.{with_feed}
 use Rattle.listed.specs.Lists.{In, here, there}
 use Rattle.listed.proofs.Lists.{In_cases, In_none, flat_same}
-use Rattle.migrate_plan.specs.{Differing.{differing}, Mix.{mix}, Plan.{Settings, lines_between, passed_in, settings_of, taken_in, tried_mix}}
+use Rattle.migrate_plan.specs.{Differing.{differing}, Mix.{mix}, Plan.{Settings, lines_between, passed_in, plan_settings, taken_in, tried_mix}}
 use Rattle.migrate_plan.specs.{Promises.{AreRight, IsRight, planned_name, searched_by}, declared.plan.PlanLine.{PlanLine}}
 use Rattle.migrate_plan.specs.declared.plan.PlanLine.TheVariants.{Take, LeftLimit, LeftLine}
 use Rattle.repo_model.specs.{FirstFault.{first_fault}, Repository.{suite_repository}}
 use Rattle.repo_model.proofs.SoundSuite.{suite_sound}
-use Rattle.suite_compare.specs.{Asking.{verdict_in}, Refusals.{home_in, packages_in}, declared.report.ReportLine.{ReportLine}}
-use Rattle.suite_compare.proofs.Deciding.{verdict_is_judged}
-use Rattle.claims.specs.{Asked.{ComparedIndex, HasPackageOf}, Goals.{CanMeet}, Kernel.{PassesOnTheWay}, Laws.{suite_of}}
-use Rattle.claims.specs.Plans.{is_left_broken, is_left_name, plan_status, printed_plan, printed_step}
+use Rattle.claims.specs.{Goals.{CanMeet}, Kernel.{PassesOnTheWay}, Plans.{is_left_broken, is_left_name, plan_status, printed_plan, printed_step}}
 use Rattle.claims.specs.Sentences.{IsFaithfulList, IsFaithfulPlan, IsRightStep, MigrateIsTrue}
-use Rattle.claims.proofs.{AskingWords.{migrate_words_ask}, CompareSentence.{comparisons_mean_this, has_to, installs_from, installs_to, two_of}}
+use Rattle.claims.proofs.{AskingWords.{migrate_words_ask}, CompareSentence.{comparisons_mean_this, installs_from, installs_to, two_of}}
 use Rattle.claims.proofs.{Index.{indexes_are_read}, Passing.{passes_not, passes_so}, Plans.{differing_order, differs_from, differs_to, mix_is}}
 use Rattle.coinst_run.specs.{Lines.{end_text}, Meaning.{IsMeant, MeansJob}, MigrateMeaning.{MigrateMeans}}
-use Rattle.coinst_run.specs.{MigrateText.{is_left, is_take, plan_line, plan_text, plan_verdict, would_break}, Status.{code_of, verdict_status}}
+use Rattle.coinst_run.specs.{MigrateText.{is_not_taken, is_take, plan_line, plan_text, plan_verdict, would_break}, Status.{code_of, verdict_status}}
 use Rattle.coinst_run.specs.{declared.answer.ReportVerdict.{ReportVerdict}, declared.answer.ReportVerdict.TheVariants.{Done, Negative, Undecided}}
 use Rattle.coinst_run.proofs.Sentences.{same_line}
 
@@ -45,7 +43,7 @@ few_taken (Take name ∷ lines) = let more = few_taken lines in omega (arith, mo
 few_taken (LeftLimit name ∷ lines) = let more = few_taken lines in omega (arith, more)
 few_taken (LeftLine name line ∷ lines) = let more = few_taken lines in omega (arith, more)
 
-leaves : (lines : List PlanLine) → length (filter is_left lines) ≡ length lines - length (taken_in lines)
+leaves : (lines : List PlanLine) → length (filter is_not_taken lines) ≡ length lines - length (taken_in lines)
 leaves [] = refl
 leaves (Take name ∷ lines) = let more = leaves lines in let few = few_taken lines in omega (arith, more, few)
 leaves (LeftLimit name ∷ lines) = let more = leaves lines in let few = few_taken lines in omega (arith, more, few)
@@ -54,7 +52,7 @@ leaves (LeftLine name line ∷ lines) = let more = leaves lines in let few = few
 plan_same : (lines : List PlanLine) → plan_text lines ≡ printed_plan lines
 unfolding plan_text
 plan_same lines =
-    ap (λ t. t ++ end_text (length (filter is_take lines)) (length (filter is_left lines))) (flat_same plan_line printed_step lines (λ l i. step_same l))
+    ap (λ t. t ++ end_text (length (filter is_take lines)) (length (filter is_not_taken lines))) (flat_same plan_line printed_step lines (λ l i. step_same l))
     ∙ ap₂ (λ m n. flat_map printed_step lines ++ end_text m n) (takes lines) (leaves lines)
 
 -- the status in both spellings
@@ -64,14 +62,14 @@ broken_same (Take name ∷ lines) = broken_same lines
 broken_same (LeftLimit name ∷ lines) = broken_same lines
 broken_same (LeftLine name line ∷ lines) = ap (λ b. is_broken line || b) (broken_same lines)
 
-left_same : (lines : List PlanLine) → list_any is_left lines ≡ list_any is_left_name lines
+left_same : (lines : List PlanLine) → list_any is_not_taken lines ≡ list_any is_left_name lines
 left_same [] = refl
 left_same (Take name ∷ lines) = left_same lines
 left_same (LeftLimit name ∷ lines) = refl
 left_same (LeftLine name line ∷ lines) = refl
 
 plan_ends : (lines : List PlanLine) → code_of (verdict_status (plan_verdict lines)) ≡ plan_status lines
-plan_ends lines = by (list_any would_break lines) (list_any is_left lines) ∙ ap₂ (λ a b. cond a 1 (cond b 8 0)) (broken_same lines) (left_same lines)
+plan_ends lines = by (list_any would_break lines) (list_any is_not_taken lines) ∙ ap₂ (λ a b. cond a 1 (cond b 8 0)) (broken_same lines) (left_same lines)
   where
     by : (a b : Bool) → code_of (verdict_status (cond a Negative (cond b Undecided Done))) ≡ cond a 1 (cond b 8 0)
     by true b = refl
@@ -100,7 +98,7 @@ right_at settings old new before [] back l r = subst (λ lines. IsRight settings
 right_at settings old new before (x ∷ front) back l r =
     subst (λ lines. IsRight settings old (tried_mix old new lines (planned_name l)) l) (append_assoc before (x ∷ []) front) (right_at settings old new (before ++ x ∷ []) front back l r.1)
 
-lines_are : (settings : Settings) (old new : Text) → ListsExactly (searched_by settings old) (searched_by settings new) (lines_between settings old new)
+lines_are : (settings : Settings) (old new : Text) → ListsExactly Judged (searched_by settings old) (searched_by settings new) (lines_between settings old new)
 unfolding lines_between
 lines_are settings old new =
     report_lists_exactly (searched_by settings old) (searched_by settings new)
@@ -111,14 +109,14 @@ lines_are settings old new =
 
 module _ (old new : Text) (budget limit : ℕ) (hold : Bool) where
   abbrev settings : Settings
-  settings = settings_of budget limit hold
+  settings = plan_settings budget limit hold
 
-  abbrev index : Text → ComparedIndex
-  index text = suite_of (searched text budget limit hold)
+  abbrev index : Text → SearchedIndex
+  index text = (searched text budget limit hold)
 
   compared : (tried : Text) (lines : List ReportLine) → first_fault old ≡ None → first_fault tried ≡ None → lines_between settings old tried ≡ lines → IsFaithfulList (index old) (index tried) lines
   compared tried lines fine other is =
-      comparisons_mean_this (searched_by settings old) (searched_by settings tried) lines fine other (subst (ListsExactly (searched_by settings old) (searched_by settings tried)) is (lines_are settings old tried))
+      comparisons_mean_this (searched_by settings old) (searched_by settings tried) lines fine other (subst (ListsExactly Judged (searched_by settings old) (searched_by settings tried)) is (lines_are settings old tried))
 
   within : (tried : Text) → passed_in settings tried ≡ None → ¬ (PassesOnTheWay limit hold (suite_repository (home_in tried) (packages_in tried)))
   unfolding passed_in
@@ -133,8 +131,8 @@ module _ (old new : Text) (budget limit : ℕ) (hold : Bool) where
   two_kept : (tried : Text) → first_fault old ≡ None → first_fault tried ≡ None → LosesNothing (searched old budget limit hold) (searched tried budget limit hold) → (a b : Text) → HasPackageOf (index old) a → HasPackageOf (index tried) a → HasPackageOf (index old) b → HasPackageOf (index tried) b
       → CanMeet (index old) (a ∷ (b ∷ [])) → CanMeet (index tried) (a ∷ (b ∷ []))
   two_kept tried fine other keeps a b oa ta ob tb i =
-      let first : BothHave (searched old budget limit hold) (searched tried budget limit hold) a = (has_to (searched old budget limit hold) a oa, has_to (searched tried budget limit hold) a ta) in
-      let second : BothHave (searched old budget limit hold) (searched tried budget limit hold) b = (has_to (searched old budget limit hold) b ob, has_to (searched tried budget limit hold) b tb) in
+      let first : BothHave (searched old budget limit hold) (searched tried budget limit hold) a = (oa, ta) in
+      let second : BothHave (searched old budget limit hold) (searched tried budget limit hold) b = (ob, tb) in
       installs_from (searched tried budget limit hold) other (a ∷ (b ∷ [])) (two_of (index tried) a b ta tb)
       (keeps.pairs a b first second (installs_to (searched old budget limit hold) fine (a ∷ (b ∷ [])) (two_of (index old) a b oa ob) i))
 
@@ -171,8 +169,8 @@ migrate_is_true words readings verdict printed m budget limit hold first second 
     let job = migrate_words_ask budget limit hold low small first second m.job (ap job_of (sym is) ∙ m.asked) in
     let means : MeansJob (Migrate first second b n hold) readings verdict printed = subst (λ j. MeansJob j readings verdict printed) job m.means in
     let k : MigrateMeans means.0 means.1 b n hold verdict printed = means.3 in (
-      suite_of (searched means.0 b n hold),
-      suite_of (searched means.1 b n hold),
+      (searched means.0 b n hold),
+      (searched means.1 b n hold),
       means.2,
       (refl, refl, refl),
       (k.lines, plan_so means.0 means.1 b n hold verdict printed k, k.reads ∙ plan_same k.lines, ap (λ v. code_of (verdict_status v)) k.whole ∙ plan_ends k.lines),

@@ -5,7 +5,7 @@ use Rattle.migrate_plan.specs.{Plan.{Settings, plan}, Refusals.{plan_refusal}, d
 use Rattle.relation_fields.specs.{declared.packages.Home.{Home}, declared.packages.PackageFacts.{PackageFacts}}
 use Rattle.repo_model.specs.{Feeding.{IsSuiteOf}, FirstFault.{first_fault}, declared.fault.IndexFault.{IndexFault}}
 use Rattle.suite_compare.specs.Refusals.{home_in, packages_in}
-use Rattle.coinst_run.specs.{declared.answer.ReportVerdict.{ReportVerdict}, Answer.{Answer, Stage, reported}, Course.{answers, then_on}, Ending.{StopsAt}}
+use Rattle.coinst_run.specs.{declared.answer.ReportVerdict.{ReportVerdict}, Answer.{Answer, CourseStage, reported}, Course.{answers, then_on}, Ending.{StopsAt}}
 use Rattle.coinst_run.specs.{Index.{Index, by_fault, checked_index, index_in}, IndexKernel.{ClassedKernel, index_kernel}, Kernel.{kernel_of}}
 use Rattle.coinst_run.specs.{Migrate.{by_refusal, kernel_at, kernel_behind, lines_answer, plan_answer, refusal_of}, MigrateText.{plan_text, plan_verdict}}
 use Rattle.coinst_run.specs.Outcome.{Outcome, answered, not_a_command, unread}
@@ -29,7 +29,7 @@ suite_checked path text home packages e =
 pub checked_read : (path text : List ℕ) (home : Home) (packages : List PackageFacts) → IsSuiteOf text packages home.name → (let index : Index = record { home = home; packages = packages } in checked_index path text ≡ Ok index)
 checked_read path text home packages suite =
     ap (by_fault path text) suite.fine
-    ∙ ap₂ (λ (name : Option (List ℕ)) (facts : List PackageFacts). let index : Index = record { home = record { name = name }; packages = facts } in let stage : Stage Index = Ok index in stage) (sym suite.common) (sym suite.facts)
+    ∙ ap₂ (λ (name : Option (List ℕ)) (facts : List PackageFacts). let index : Index = record { home = record { name = name }; packages = facts } in let stage : CourseStage Index = Ok index in stage) (sym suite.common) (sym suite.facts)
 
 -- its kernel is that of its text
 pub kernel_checked : (path text : List ℕ) (limit : ℕ) (hold : Bool) (index : Index) → checked_index path text ≡ Ok index → kernel_of path limit hold index ≡ Ok (index_kernel limit hold index.home index.packages) →

@@ -1,11 +1,11 @@
 -- The sentences of `query`, of an index and of a stored kernel, and that a printed kernel is settled, from what a report means.
+use Rattle.suite_compare.specs.Indexes.{SearchedIndex, SearchedIndex, searched}
 use Rattle.std.proofs.Common.{◌≡◌, ℕ, ◌<◌, ◌≤◌, Bool, true, false, List, [], None, length, refl, sym, ap, ap₂, subst, ◌∙◌, ◌+◌, arith}
 use Rattle.std.proofs.lemmas.Bool.Decides.{nat_tests}
 use Rattle.std.specs.Prelude.{is_some, nat_lt, unwrap_or}
 use Rattle.byte_flow.specs.History.{OpenedFile}
 use Rattle.coinst_words.specs.{Jobs.{job_of}, Usage.{Text}, declared.job.Job.TheVariants.{Kernel, Query, StoredQuery}}
 use Rattle.deb_version.specs.Names.{is_name}
-use Rattle.headline.specs.Indexes.{SearchedIndex, searched}
 use Rattle.kernel_text.specs.{KernelReads.{KernelContent, KernelReads}, KernelText.{format_of, kernel_text}, declared.member.Member.{Member}}
 use Rattle.kernel_text.specs.Images as stored
 use Rattle.kernel_text.specs.Serving.{images_in}
@@ -20,8 +20,8 @@ use Rattle.row_book.specs.Rounds.{kernel}
 use Rattle.search_terms.specs.{Form.{form}, Tree.{Tree, failed_leaves, found_of}, declared.literals.Literal.{Literal}}
 use Rattle.suite_compare.specs.{Asking.{asked_tree, tree_of}, Refusals.{home_in, packages_in}}
 use Rattle.suite_compare.proofs.Deciding.{named_parts}
-use Rattle.claims.specs.{Asked.{ComparedIndex}, Certificates.{HasClassOfEach, IsTooLong}, Goals.{CanMeet, HasEach, all_stanzas}}
-use Rattle.claims.specs.{Laws.{kernel_printed, suite_of}, Settled.{IsKernelText, IsPastBudget}, Search.{Searched}}
+use Rattle.claims.specs.{Certificates.{HasClassOfEach, IsTooLong}, Goals.{CanMeet, HasEach, all_stanzas}, Laws.{kernel_printed, as_read}}
+use Rattle.claims.specs.{Settled.{IsKernelText, IsPastBudget}, Search.{Searched}}
 use Rattle.claims.specs.Sentences.{IsFaithfulAnswer, IsFaithfulStoredAnswer, KernelIsSettled, QueryIsTrue, StoredQueryIsTrue}
 use Rattle.claims.specs.Sentences.IsFaithfulAnswer.{yes as answer_yes, no as answer_no, undecided as answer_undecided}
 use Rattle.claims.specs.Sentences.IsFaithfulStoredAnswer.{yes as classes_yes, no as classes_no, undecided as classes_undecided}
@@ -51,11 +51,11 @@ kernel_is_settled words readings verdict printed m limit hold path low is =
     let means : MeansJob (Kernel path false n hold) readings verdict printed = subst (λ j. MeansJob j readings verdict printed) job m.means in
     let k : KernelMeans means.0 n hold printed = means.3 in
     let index : SearchedIndex = searched means.0 10000 n hold in (
-      suite_of index,
+      as_read index,
       means.1,
       ap (λ v. code_of (verdict_status v)) means.2,
       (refl, refl, refl),
-      subst (IsKernelText (suite_of index)) (sym (kernel_is_printed means.0 n hold printed k)) (kernel_texts_are_there index k.accepted),
+      subst (IsKernelText (as_read index)) (sym (kernel_is_printed means.0 n hold printed k)) (kernel_texts_are_there index k.accepted),
     )
 
 -- what a goal names is there
@@ -67,8 +67,8 @@ named_inside stanzas goal n i =
 
 -- a query of an index
 module _ (text : Text) (budget limit : ℕ) (hold : Bool) (words : List Text) (goals : List Goal) (z : AreGoals words goals) (accepted : first_fault text ≡ None) where
-  abbrev index : ComparedIndex
-  index = suite_of (searched text budget limit hold)
+  abbrev index : SearchedIndex
+  index = (searched text budget limit hold)
 
   pub named : (n : ℕ) → n < length (packages_in text) → is_name (stanza_at (packages_in text) n).name ≡ true
   named n l = ((formed text accepted).named (stanza_at (packages_in text) n) (In_at (packages_in text) n no_stanza l)).name
@@ -114,7 +114,7 @@ query_is_true words readings verdict printed m budget limit hold path goals low 
     let w = query_words_ask budget limit hold low small path goals m.job o (ap job_of (sym is) ∙ m.asked) in
     let means : MeansJob (Query path w.0 b n hold) readings verdict printed = subst (λ j. MeansJob j readings verdict printed) w.2 m.means in
     let k : QueryMeans means.0 w.0 b n hold verdict printed = means.2 in (
-      suite_of (searched means.0 b n hold),
+      (searched means.0 b n hold),
       means.1,
       indexes_are_read means.0 k.accepted,
       (refl, refl, refl),

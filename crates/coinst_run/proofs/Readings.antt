@@ -5,14 +5,14 @@ use Rattle.byte_flow.specs.{Flow.{FileIs, Files}, History.{OpenedFile, noted, wi
 use Rattle.byte_flow.specs.Transfer.{HandsOver, Reached, Sent, begun, piece_size, read_on, sent_on, started}
 use Rattle.coinst_run.specs.{Answer.{Answer}, Course.{Course, answers}}
 use Rattle.coinst_run.specs.Follows.{Follows, WasRead, at_its_end, behind_a_text, at_an_unread_file, at_a_long_file, without_memory, without_memory_for_a_file}
-use Rattle.coinst_run.specs.{Outcome.{Gives, Outcome, answered, at_once, by_text, too_long}, Readings.{AreOf, HasRead, no_file, a_file}}
+use Rattle.coinst_run.specs.{Outcome.{GivesAnswer, Outcome, answered, at_once, by_text, too_long}, Readings.{AreOf, HasRead, no_file, a_file}}
 
 -- a course that ended at an answer: what it read, and that it leads from these texts to this answer
 pub record LedTo {S : Type 0} (M : ShelfModel S) (course : Course) (old new : S) (answer : Answer) : Type 0 where
   pub readings : List OpenedFile
   pub was_read : HasRead M old readings new
   pub told : IfSome (M.contents old) (λ files. AreOf files readings)
-  pub gives : Gives course readings answer
+  pub gives : GivesAnswer course readings answer
 
 -- the text is the file's where the contents are told
 told_both : (before after : Option Files) (path text : List ℕ) (readings : List OpenedFile) → after ≡ before → FileIs before path text → IfSome after (λ files. AreOf files readings) →
@@ -27,7 +27,7 @@ nothing_told (Some files) = tt
 module _ {S : Type 0} {M : ShelfModel S} where
   pub led_to : {course : Course} {s u : S} {ending : Option Outcome} (answer : Answer) → ((path : List ℕ) → too_long path ≡ answer → ⊥) → Follows M course s ending u →
       ending ≡ Some (answered answer) → LedTo M course s u answer
-  led_to answer short (at_its_end said s) e = let same : said ≡ answer = cc in record { readings = []; was_read = no_file s; told = nothing_told (M.contents s); gives = subst (λ a. Gives (answers said) [] a) same (at_once said) }
+  led_to answer short (at_its_end said s) e = let same : said ≡ answer = cc in record { readings = []; was_read = no_file s; told = nothing_told (M.contents s); gives = subst (λ a. GivesAnswer (answers said) [] a) same (at_once said) }
   led_to answer short (behind_a_text path text next s t u ending w f) e =
       let rest : LedTo M (next text) t u answer = led_to answer short f e in
       record {

@@ -10,9 +10,9 @@ use Rattle.coinst_words.specs.{declared.job.Job.{Job}, declared.error.WordError.
 use Rattle.coinst_words.specs.declared.error.WordError.TheVariants as words
 use Rattle.coinst_run.specs.{Answer.{reported, refused}, Delivers.{Delivers, IsRefused, Tells, a_cut_report, a_refusal, a_report}}
 use Rattle.coinst_run.specs.{Ending.{stop_ending, word_stop}, Follows.{FollowsJob, of_a_job, of_no_job, without_memory, without_memory_for_words}}
-use Rattle.coinst_run.specs.Meaning.{IsMeant, MeansJob, course_of, of_job, outcome_of}
-use Rattle.coinst_run.specs.{Outcome.{Outcome, answered, unread, not_a_command, report_of, status_of, too_long}, Readings.{IsOfText, Prints, Refuses, Reports}}
-use Rattle.coinst_run.specs.Run.{Answers, Completes}
+use Rattle.coinst_run.specs.Meaning.{IsMeant, MeansJob, course_of, of_job, outcome_for}
+use Rattle.coinst_run.specs.Outcome.{Outcome, answered, unread, not_a_command, report_of, status_of, too_long}
+use Rattle.coinst_run.specs.{Readings.{IsOfText, Prints, RunRefuses, Reports}, Run.{RunAnswers, Completes}}
 use Rattle.coinst_run.proofs.Readings.{LedTo, led_to}
 use Rattle.coinst_run.specs.Run as run
 use Rattle.coinst_run.specs.Status.{cause_status, code_of, verdict_status}
@@ -101,7 +101,7 @@ one_verdict Undecided Undecided e = refl
 
 -- where the outcome is told, the clauses on it follow from the ways to answer
 module _ {Quiet RoseIn RoseOut : Type 0} {room : ℕ} {Line : List ℕ → Type 0} {old new : Option (List ℕ)} {result : Status} where
-  pub completes_told : (o : Outcome) → Answers Quiet RoseIn RoseOut room Line o old new result → (RoseIn → ⊥) → (RoseOut → ⊥) → Completes result o
+  pub completes_told : (o : Outcome) → RunAnswers Quiet RoseIn RoseOut room Line o old new result → (RoseIn → ⊥) → (RoseOut → ⊥) → Completes result o
   completes_told o (run.as_told is took line) noread nowrite report = inl is
   completes_told o (run.unread_file path is rose quiet took line) noread nowrite report = absurd (noread rose)
   completes_told o (run.cut_report is rose roomless report took) noread nowrite h = absurd (nowrite rose)
@@ -114,13 +114,13 @@ module _ {O E : Type 0} {N : SinkModel O} {L : SinkModel E} {out out_after : O} 
   -- a run whose outcome is told
   pub answers_told : {Quiet RoseIn : Type 0} (o : Outcome) {ending : Option Outcome} → EndsAs Quiet o ending → ((path : List ℕ) → ending ≡ Some (unread path) → RoseIn) →
       Delivers N L out err result out_after err_after ending →
-      Answers Quiet RoseIn (Rose (N.faults out) (N.faults out_after)) (N.room out) (Tells L err err_after) o (N.taken out) (N.taken out_after) result
+      RunAnswers Quiet RoseIn (Rose (N.faults out) (N.faults out_after)) (N.room out) (Tells L err err_after) o (N.taken out) (N.taken out_after) result
   answers_told o ends.as_told rose (a_report verdict report w) = run.as_told w.status w.took (λ stop. absurd stop)
   answers_told o ends.as_told rose (a_cut_report verdict report k) = run.cut_report k.status k.rose k.roomless (λ stop. stop) (k.written, k.short, k.took)
   answers_told o ends.as_told rose (a_refusal ending same d) = as_refused o same d
     where
       as_refused : {Quiet RoseIn : Type 0} (o : Outcome) → out_after ≡ out → IsRefused L err (Some o) result err_after →
-          Answers Quiet RoseIn (Rose (N.faults out) (N.faults out_after)) (N.room out) (Tells L err err_after) o (N.taken out) (N.taken out_after) result
+          RunAnswers Quiet RoseIn (Rose (N.faults out) (N.faults out_after)) (N.room out) (Tells L err err_after) o (N.taken out) (N.taken out_after) result
       as_refused (answered (reported verdict report)) same d = absurd d.0
       as_refused (answered (refused cause line)) same d = run.as_told d.1 (nothing N.taken out out_after same) (λ stop. d.2)
       as_refused (unread path) same d = run.as_told d.1 (nothing N.taken out out_after same) (λ stop. d.2)
@@ -226,7 +226,7 @@ module _ {F : Type 0} {M : ShelfModel F} where
 
   -- a run with the status of a refusal for what was read
   refuses_job : {O : Type 0} {job : Option Job} {shelf : F} {ending : Option Outcome} {after : F} {out out_after : O} (words : List (List ℕ)) (cause : Cause) (line : List ℕ) (Line : List ℕ → Type 0) → IsOfText cause → job_of words ≡ job →
-      FollowsJob M job shelf ending after → ending ≡ Some (answered (refused cause line)) → out_after ≡ out → Line line → Refuses M shelf after out out_after words cause Line
+      FollowsJob M job shelf ending after → ending ≡ Some (answered (refused cause line)) → out_after ≡ out → Line line → RunRefuses M shelf after out out_after words cause Line
   refuses_job words cause line Line of asked (of_no_job s) e same said = absurd cc
   refuses_job words cause line Line of asked (without_memory_for_words s) e same said = absurd cc
   refuses_job words cause line Line of asked (of_a_job job s t x f) e same said =
@@ -247,9 +247,9 @@ module _ {F : Type 0} {M : ShelfModel F} where
     -- the clauses of a run, from what was done to the shelf and what the sinks took
     pub answers_run : {shelf after : F} {ending : Option Outcome} {out out_after : O} {err err_after : E} {result : Status} (words : List (List ℕ)) → FollowsJob M (job_of words) shelf ending after →
         Delivers N L out err result out_after err_after ending →
-        IfSome (M.contents shelf) (λ files. Answers (M.is_quiet shelf) (Rose (M.faults shelf) (M.faults after)) (Rose (N.faults out) (N.faults out_after)) (N.room out) (Tells L err err_after)
-        (outcome_of words files) (N.taken out) (N.taken out_after) result)
-    unfolding outcome_of
+        IfSome (M.contents shelf) (λ files. RunAnswers (M.is_quiet shelf) (Rose (M.faults shelf) (M.faults after)) (Rose (N.faults out) (N.faults out_after)) (N.room out) (Tells L err err_after)
+        (outcome_for words files) (N.taken out) (N.taken out_after) result)
+    unfolding outcome_for
     answers_run {shelf = shelf} words f d = each_told (M.contents shelf) (λ files is. answers_told (of_job (job_of words) files) (job_ends files f is) (λ path e. job_rose f e) d)
 
     pub reports_run : {shelf after : F} {ending : Option Outcome} {out out_after : O} {err err_after : E} {result : Status} (words : List (List ℕ)) (verdict : ReportVerdict) (P : List OpenedFile → List ℕ → Type 0) →
@@ -258,7 +258,7 @@ module _ {F : Type 0} {M : ShelfModel F} where
     reports_run {ending = ending} words verdict P to f d e = let w = wrote ending verdict d e in reports_job words verdict w.0 P refl f w.1 w.2 w.3 to
 
     pub refuses_run : {shelf after : F} {ending : Option Outcome} {out out_after : O} {err err_after : E} {result : Status} (words : List (List ℕ)) (cause : Cause) → IsOfText cause →
-        FollowsJob M (job_of words) shelf ending after → Delivers N L out err result out_after err_after ending → result ≡ cause_status cause → Refuses M shelf after out out_after words cause (Tells L err err_after)
+        FollowsJob M (job_of words) shelf ending after → Delivers N L out err result out_after err_after ending → result ≡ cause_status cause → RunRefuses M shelf after out out_after words cause (Tells L err err_after)
     refuses_run {ending = ending} {err = err} {err_after = err_after} words cause of f d e =
         let w = refused_so ending cause d e in refuses_job words cause w.0 (Tells L err err_after) of refl f w.1 w.2 w.3
 
@@ -275,8 +275,8 @@ module _ {F : Type 0} {M : ShelfModel F} where
 
     pub completes_run : {shelf after : F} {ending : Option Outcome} {out out_after : O} {err err_after : E} {result : Status} (words : List (List ℕ)) → FollowsJob M (job_of words) shelf ending after →
         Delivers N L out err result out_after err_after ending →
-        IfSome (M.contents shelf) (λ files. (Rose (M.faults shelf) (M.faults after) → ⊥) → (Rose (N.faults out) (N.faults out_after) → ⊥) → Completes result (outcome_of words files))
-    completes_run {shelf = shelf} words f d = if_told (M.contents shelf) (λ files h. completes_told (outcome_of words files) h) (answers_run words f d)
+        IfSome (M.contents shelf) (λ files. (Rose (M.faults shelf) (M.faults after) → ⊥) → (Rose (N.faults out) (N.faults out_after) → ⊥) → Completes result (outcome_for words files))
+    completes_run {shelf = shelf} words f d = if_told (M.contents shelf) (λ files h. completes_told (outcome_for words files) h) (answers_run words f d)
 
     pub read_fault_run : {shelf after : F} {ending : Option Outcome} {out out_after : O} {err err_after : E} {result : Status} {job : Option Job} → FollowsJob M job shelf ending after →
         Delivers N L out err result out_after err_after ending → result ≡ status.ReadFault → Rose (M.faults shelf) (M.faults after)

@@ -4,11 +4,11 @@ use Rattle.byte_flow.specs.History.{OpenedFile}
 use Rattle.sample_suite.specs.SampleText.{sample_text}
 use Rattle.suite_compare.specs.Refusals.{home_in, packages_in}
 use Rattle.coinst_run.specs.{declared.answer.ReportVerdict.{ReportVerdict}, declared.answer.ReportVerdict.TheVariants.{Done}, Answer.{reported}}
-use Rattle.coinst_run.specs.{Course.{answers}, IndexKernel.{index_kernel}, Meaning.{SizeMeans}, Outcome.{Gives}}
+use Rattle.coinst_run.specs.{Course.{answers}, IndexKernel.{index_kernel}, Meaning.{SizeMeans}, Outcome.{GivesAnswer}}
 use Rattle.coinst_run.specs.Sample.{sample_answer, sample_course, sample_limit, sample_path, size_report}
 use Rattle.coinst_run.proofs.{AnswerMeant.{told_means}, Given.{at_end, checked_read, limit_read}}
 
-pub sample_report_means : (readings : List OpenedFile) (verdict : ReportVerdict) (report : List ℕ) (seed count : ℕ) → Gives (sample_course seed count) readings (reported verdict report) →
+pub sample_report_means : (readings : List OpenedFile) (verdict : ReportVerdict) (report : List ℕ) (seed count : ℕ) → GivesAnswer (sample_course seed count) readings (reported verdict report) →
     (readings ≡ []) × (verdict ≡ Done) × SizeMeans (sample_text seed count) report
 sample_report_means readings verdict report seed count e =
     let text : List ℕ = sample_text seed count in

@@ -7,7 +7,7 @@ use Rattle.clause_pool.specs.Interned.{Interned, row_at}
 use Rattle.kernel_rounds.specs.declared.extraction.Kernel.{Kernel}
 use Rattle.relation_fields.specs.declared.packages.PackageFacts.{PackageFacts}
 use Rattle.row_book.specs.{Book.{listed_for, repository_of}, Numbers.{numbers}, Repository.{clauses_of}}
-use Rattle.coinst_run.specs.{IndexKernel.{members_for}, Kernel.{kernel_in}, Lines.{size_line}, Sample.{size_report}}
+use Rattle.coinst_run.specs.{IndexKernel.{members_for}, Kernel.{classed_in}, Lines.{size_line}, Sample.{size_report}}
 use Rattle.kernel_text.specs.{KernelText.{format_of, greater_conflicts, kernel_lines}, LineKinds.{is_against_line, is_needs_line}}
 use Rattle.kernel_text.proofs.LineCounts.{lines_are_counted}
 
@@ -33,11 +33,11 @@ sum_more f n before one new sofar is added =
 pub size_told : (stanzas : List PackageFacts) (pool : Interned) (made : Kernel) (packages classes clauses conflicts : ℕ) (line : List ℕ) → packages ≡ length stanzas → classes ≡ length made.book.rows
     → clauses ≡ sum_by (λ n. length (clauses_of (repository_of pool made.book) n)) (numbers (length made.book.rows) 0)
     → conflicts ≡ sum_by (λ n. length (filter (λ m. ltb n m) (listed_for made.book.conflicts n))) (numbers (length made.book.rows) 0)
-    → line ≡ size_line packages classes clauses conflicts → line ≡ size_report stanzas (kernel_in pool made)
+    → line ≡ size_line packages classes clauses conflicts → line ≡ size_report stanzas (classed_in pool made)
 unfolding size_report
 size_told stanzas pool made packages classes clauses conflicts line a b c d e =
     let R = repository_of pool made.book in
-    let members = members_for stanzas (kernel_in pool made) in
+    let members = members_for stanzas (classed_in pool made) in
     let format = format_of made.hold in
     let counted = lines_are_counted format R members made.held in
     let size : length R.clauses ≡ length made.book.rows = length-map made.book.rows (row_at pool) in

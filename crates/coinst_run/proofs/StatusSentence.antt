@@ -1,4 +1,5 @@
 -- The sentence of `status`, from what its report means.
+use Rattle.suite_compare.specs.Indexes.{SearchedIndex, searched}
 use Rattle.std.proofs.Common.{◌≡◌, ℕ, zero, suc, ◌+◌, ◌-◌, ◌<◌, Bool, true, false, not, cond, eqb, List, [], ◌∷◌, ◌++◌, Some, None, filter, length, map, refl, sym, ap, ap₂, subst, ◌∙◌, arith, inl, inr, eqb-true}
 use Rattle.std.proofs.{lemmas.Bool.{and_from, and_parts, cases_Bool}, lemmas.List.{length-map}}
 use Rattle.std.specs.{Prelude.{codes, count_by, unwrap_or}, Fmt.{decimal}, List.{flat_map}, Ordering.{is_eq}, Str.{bytes_eq}}
@@ -6,20 +7,19 @@ use Rattle.byte_flow.specs.History.{OpenedFile}
 use Rattle.clause_solver.specs.{declared.outcomes.Verdict.{Verdict}, declared.outcomes.Verdict.TheVariants.{Yes, No, Spent}}
 use Rattle.coinst_words.specs.{Jobs.{job_of}, Usage.{Text}, declared.job.Job.TheVariants.{Status}}
 use Rattle.deb_version.specs.Order.{version_order}
-use Rattle.headline.specs.Indexes.{searched}
 use Rattle.kernel_text.specs.KernelLines.{with_feed}
 use Rattle.listed.specs.Lists.{In, here, there}
 use Rattle.listed.proofs.{Bools.{same_bool}, Lists.{In_at, In_place, any_cases, any_from, filled, filter_cases, filter_same, same_bytes, some_item}}
 use Rattle.relation_fields.specs.declared.packages.PackageFacts.{PackageFacts}
 use Rattle.repo_model.specs.{FirstFault.{first_fault}, Goals.{goal_of, is_named_by, packages_named}, Stanzas.{no_stanza, stanza_at}, declared.goals.Goal.{Goal}}
 use Rattle.repo_model.proofs.Accepted.{Accepted, accepted}
-use Rattle.status_check.specs.{Own.{own_home, own_packages}, Report.{goal_for, had_goals, is_had, line_for, state_of}, declared.report.HaveLine.{HaveLine}}
+use Rattle.status_check.specs.{Own.{own_home, own_packages}, Report.{goal_for, had_goals, index_has, line_for, state_of}, declared.report.HaveLine.{HaveLine}}
 use Rattle.status_check.specs.{declared.report.OwnState.{OwnState}, declared.report.StatusReport.{StatusReport}, declared.report.SuiteState.{SuiteState}}
 use Rattle.status_check.specs.declared.report.OwnState.TheVariants as state
 use Rattle.status_check.specs.declared.report.SuiteState.TheVariants as suite
 use Rattle.suite_compare.specs.{Asking.{HasVerdict, verdict_in}, Refusals.{home_in, packages_in}}
 use Rattle.suite_compare.proofs.Deciding.{named_from, named_parts, verdict_is_judged}
-use Rattle.claims.specs.{Asked.{ComparedIndex}, Control.{stanza_groups}, Index.{is_one_package}, Laws.{suite_of}}
+use Rattle.claims.specs.{Control.{stanza_groups}, Index.{is_one_package}, Laws.{as_read}}
 use Rattle.claims.specs.Systems.{goal_word_of, has_package, is_foreign_group, printed_state, printed_system, system_status}
 use Rattle.claims.specs.{Sentences.{IsFaithfulSystem, IsSuiteAnswer, StatusIsTrue}, Sentences.IsSuiteAnswer.{suite_no, suite_undecided, suite_yes}}
 use Rattle.claims.proofs.{AskingWords.{status_words_ask}, Goals.{AreGoals, goal_cut}, Index.{indexes_are_read}, Meeting.{can_meet}, Members.{text_same}}
@@ -30,8 +30,8 @@ use Rattle.coinst_run.specs.{Status.{code_of, verdict_status}, declared.answer.R
 use Rattle.coinst_run.proofs.QuerySentences.{cannot, in_time, named_inside, past}
 
 module _ (text : Text) (budget limit : ℕ) (hold : Bool) (fine : first_fault text ≡ None) where
-  abbrev index : ComparedIndex
-  index = suite_of (searched text budget limit hold)
+  abbrev index : SearchedIndex
+  index = (searched text budget limit hold)
 
   abbrev stanzas : List PackageFacts
   stanzas = packages_in text
@@ -40,14 +40,14 @@ module _ (text : Text) (budget limit : ℕ) (hold : Bool) (fine : first_fault te
   is_it own it = is_one_package it.name it.version own.name own.version
 
   -- the index has a package
-  had_same : (own : PackageFacts) → is_had stanzas own ≡ has_package index own
-  had_same own = same_bool (is_had stanzas own) (has_package index own) to from
+  had_same : (own : PackageFacts) → index_has stanzas own ≡ has_package index own
+  had_same own = same_bool (index_has stanzas own) (has_package index own) to from
     where
       up : (b : Bool) → not b ≡ true → b ≡ false
       up true h = absurd (let no : ⊥ = cc in no)
       up false h = refl
 
-      to : is_had stanzas own ≡ true → has_package index own ≡ true
+      to : index_has stanzas own ≡ true → has_package index own ≡ true
       to h =
           let n = some_item (packages_named stanzas (goal_for own)) (up (eqb (length (packages_named stanzas (goal_for own))) 0) h) in
           let it : PackageFacts = stanza_at stanzas n.0 in
@@ -55,7 +55,7 @@ module _ (text : Text) (budget limit : ℕ) (hold : Bool) (fine : first_fault te
           any_from (is_it own) stanzas it (In_at stanzas n.0 no_stanza (named_inside stanzas (goal_for own) n.0 n.1))
           (and_from (bytes_eq it.name own.name) (is_eq (version_order it.version own.version)) (text_same it.name own.name (sym (same_bytes own.name it.name both.0))) both.1)
 
-      from : has_package index own ≡ true → is_had stanzas own ≡ true
+      from : has_package index own ≡ true → index_has stanzas own ≡ true
       from h =
           let w = any_cases (is_it own) stanzas h in
           let n = In_place stanzas w.0 no_stanza w.1 in
@@ -72,7 +72,7 @@ module _ (text : Text) (budget limit : ℕ) (hold : Bool) (fine : first_fault te
   -- the texts are one
   have_same : (own : List PackageFacts) → flat_map have_text (map (line_for stanzas) own) ≡ flat_map (λ (it : PackageFacts). with_feed (cond (has_package index it) (codes "have ") (codes "lack ") ++ (it.name ++ codes " " ++ it.version))) own
   have_same [] = refl
-  have_same (it ∷ own) = ap₂ (λ x y. x ++ y) (by (is_had stanzas it) (has_package index it) (had_same it)) (have_same own)
+  have_same (it ∷ own) = ap₂ (λ x y. x ++ y) (by (index_has stanzas it) (has_package index it) (had_same it)) (have_same own)
     where
       by : (a b : Bool) → a ≡ b → have_text (record { name = it.name; version = it.version; had = a }) ≡ with_feed (cond b (codes "have ") (codes "lack ") ++ (it.name ++ codes " " ++ it.version))
       by true true e = refl
@@ -99,7 +99,7 @@ module _ (text : Text) (budget limit : ℕ) (hold : Bool) (fine : first_fault te
 
   count_had : (own : List PackageFacts) → length (filter line_had (map (line_for stanzas) own)) ≡ length (filter (has_package index) own)
   count_had [] = refl
-  count_had (it ∷ own) = by (is_had stanzas it) (has_package index it) (had_same it) (count_had own)
+  count_had (it ∷ own) = by (index_has stanzas it) (has_package index it) (had_same it) (count_had own)
     where
       by : (a b : Bool) → a ≡ b → length (filter line_had (map (line_for stanzas) own)) ≡ length (filter (has_package index) own)
           → length (cond a (line_for stanzas it ∷ filter line_had (map (line_for stanzas) own)) (filter line_had (map (line_for stanzas) own))) ≡ length (cond b (it ∷ filter (has_package index) own) (filter (has_package index) own))
@@ -158,7 +158,7 @@ module _ (text : Text) (budget limit : ℕ) (hold : Bool) (fine : first_fault te
   had_read : (own : List PackageFacts) → ((s : PackageFacts) → In s own → goal_of (goal_word_of s) ≡ Some (goal_for s)) → AreGoals (had_words own) (had_goals stanzas own)
   had_read own f =
       let read : AreGoals (map goal_word_of (filter (has_package index) own)) (map goal_for (filter (has_package index) own)) = words_read (filter (has_package index) own) (λ s i. f s (filter_cases (has_package index) own s i).0) in
-      subst (λ had. AreGoals (had_words own) (map goal_for had)) (sym (filter_same (is_had stanzas) (has_package index) own (λ s i. had_same s))) read
+      subst (λ had. AreGoals (had_words own) (map goal_for had)) (sym (filter_same (index_has stanzas) (has_package index) own (λ s i. had_same s))) read
 
   suite_told : (words : List Text) (goals : List Goal) → AreGoals words goals → (v : Verdict) → HasVerdict limit hold (home_in text) stanzas budget goals v → IsSuiteAnswer index words (suite_status (state_of budget v)) (suite_words (state_of budget v))
   suite_told words goals z Yes h = suite_yes (in_time text budget limit hold words goals z fine h.0) (can_meet index words goals z h.1)
@@ -208,4 +208,4 @@ status_is_true words readings verdict printed m budget limit hold path index_pat
     let job = status_words_ask budget limit hold low small path index_path m.job (ap job_of (sym is) ∙ m.asked) in
     let means : MeansJob (Status path index_path b n hold) readings verdict printed = subst (λ j. MeansJob j readings verdict printed) job m.means in
     let k : SystemMeans means.0 means.1 b n hold verdict printed = means.3 in
-    (suite_of (searched means.0 b n hold), means.1, means.2, indexes_are_read means.0 k.accepted, (refl, refl, refl), system_so means.0 b n hold k.accepted means.1 verdict printed k)
+    ((searched means.0 b n hold), means.1, means.2, indexes_are_read means.0 k.accepted, (refl, refl, refl), system_so means.0 b n hold k.accepted means.1 verdict printed k)

@@ -8,5 +8,5 @@ pub data Answer : Type 0 where
   refused : Cause → List ℕ → Answer
 
 -- a part of a command: a value to go on with, or the answer of the whole command
-abbrev pub Stage : Type 0 → Type 0
-Stage A = Result A Answer
+abbrev pub CourseStage : Type 0 → Type 0
+CourseStage A = Result A Answer

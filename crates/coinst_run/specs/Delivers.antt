@@ -41,7 +41,7 @@ pub record IsWritten {O E : Type 0} (N : SinkModel O)
   pub quiet : err_after ≡ err
 
 -- A write of the report failed, the last, and what was taken before it is told by its length.
-pub record IsCut {O E : Type 0} (N : SinkModel O) (L : SinkModel E)
+pub record IsCutOff {O E : Type 0} (N : SinkModel O) (L : SinkModel E)
     (out : O) (err : E) (report : List ℕ) (result : Status) (out_after : O) (err_after : E) : Type 0 where
   pub status : result ≡ WriteFault
   pub calls : LastWriteFailed N out report out_after
@@ -62,7 +62,7 @@ pub data Delivers {O E : Type 0} (N : SinkModel O) (L : SinkModel E)
     (out : O) (err : E) (result : Status) (out_after : O) (err_after : E) : Option Outcome → Type 0 where
   a_report : (verdict : ReportVerdict) (report : List ℕ) → IsWritten N out err verdict report result out_after err_after →
       Delivers N L out err result out_after err_after (Some (answered (reported verdict report)))
-  a_cut_report : (verdict : ReportVerdict) (report : List ℕ) → IsCut N L out err report result out_after err_after →
+  a_cut_report : (verdict : ReportVerdict) (report : List ℕ) → IsCutOff N L out err report result out_after err_after →
       Delivers N L out err result out_after err_after (Some (answered (reported verdict report)))
   a_refusal : (ending : Option Outcome) → out_after ≡ out → IsRefused L err ending result err_after →
       Delivers N L out err result out_after err_after ending

@@ -6,7 +6,7 @@ use Rattle.coinst_run.specs.{declared.answer.Report.{Report}, declared.answer.St
 use Rattle.coinst_run.specs.declared.answer.Stop.TheVariants.{NotACommand, Refused, Unread, Memory}
 use Rattle.coinst_words.specs.declared.error.WordError.{WordError}
 use Rattle.coinst_words.specs.declared.error.WordError.TheVariants as words
-use Rattle.coinst_run.specs.{Answer.{Stage, reported, refused}, Course.{Course, answers}, Outcome.{Outcome, answered, unread, not_a_command, too_long}}
+use Rattle.coinst_run.specs.{Answer.{CourseStage, reported, refused}, Course.{Course, answers}, Outcome.{Outcome, answered, unread, not_a_command, too_long}}
 
 abbrev pub stop_ending : Stop → Option Outcome
 stop_ending NotACommand = Some not_a_command
@@ -30,7 +30,7 @@ word_stop words.NotACommand = NotACommand
 word_stop words.Memory = Memory
 
 -- the ending is the answer of the part, or no memory was found
-abbrev pub StopsAt : {A : Type 0} → Stage A → Option Outcome → Type 0
+abbrev pub StopsAt : {A : Type 0} → CourseStage A → Option Outcome → Type 0
 StopsAt stage None = ⊤
 StopsAt stage (Some (answered answer)) = stage ≡ Err answer
 StopsAt stage (Some (unread path)) = ⊥

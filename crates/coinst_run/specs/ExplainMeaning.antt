@@ -8,7 +8,8 @@ use Rattle.listed.specs.Lists.{In}
 use Rattle.search_terms.specs.Tree.{failed_leaves}
 use Rattle.suite_compare.specs.{Asking.{asked_tree}, Refusals.{home_in, packages_in}}
 use Rattle.coinst_run.specs.{declared.answer.ReportVerdict.{ReportVerdict}, declared.answer.ReportVerdict.TheVariants.{Done, Negative, Undecided}}
-use Rattle.coinst_run.specs.{Answer.{reported}, Explain.{explain_course}, ExplainText.{core_text, yes_line}, Outcome.{Gives}, QueryMeaning.{UndecidedMeans}}
+use Rattle.coinst_run.specs.{Answer.{reported}, Explain.{explain_course}, ExplainText.{core_text, yes_line}, Outcome.{GivesAnswer}}
+use Rattle.coinst_run.specs.QueryMeaning.{UndecidedMeans}
 
 -- The goals are co-installable.
 pub record ExplainedYes (text : List ℕ) (goals : List Goal) (budget limit : ℕ) (hold : Bool) (printed : List ℕ) : Type 0 where
@@ -42,5 +43,5 @@ pub record ExplainMeans (text : List ℕ) (goals : List Goal) (budget limit : �
 
 -- what is reported of a file means this for its text
 abbrev pub ExplainIsMeant : Type 0
-ExplainIsMeant = (path : List ℕ) (goals : List Goal) (budget limit : ℕ) (hold : Bool) (readings : List OpenedFile) (verdict : ReportVerdict) (printed : List ℕ) → Gives (explain_course path goals budget limit hold) readings (reported verdict printed) →
+ExplainIsMeant = (path : List ℕ) (goals : List Goal) (budget limit : ℕ) (hold : Bool) (readings : List OpenedFile) (verdict : ReportVerdict) (printed : List ℕ) → GivesAnswer (explain_course path goals budget limit hold) readings (reported verdict printed) →
     (text : List ℕ) × (readings ≡ (path, text) ∷ []) × ExplainMeans text goals budget limit hold verdict printed

@@ -53,17 +53,17 @@ pub data FollowsJob {S : Type 0} (M : ShelfModel S) : Option Job → S → Optio
       FollowsJob M (Some job) s ending t
 
 -- The course leads to the rest of it, and from one shelf to another: however the rest ends, the course ends so.
-abbrev pub LeadsTo : {S : Type 0} → ShelfModel S → Course → S → Course → S → Type 0
-LeadsTo {S} M course old rest mid =
+abbrev pub LeadsToRest : {S : Type 0} → ShelfModel S → Course → S → Course → S → Type 0
+LeadsToRest {S} M course old rest mid =
     (ending : Option Outcome) (new : S) → Follows M rest mid ending new → Follows M course old ending new
 
 -- The index at the path was read, and the course goes on by it.
 abbrev pub ReachesIndex : {S : Type 0} → ShelfModel S → S → List ℕ → Index → S → Type 0
 ReachesIndex {S} M old path index mid =
-    (next : Index → Course) → LeadsTo M (reads_index path next) old (next index) mid
+    (next : Index → Course) → LeadsToRest M (reads_index path next) old (next index) mid
 
 -- The same of the index and its kernel.
 abbrev pub ReachesKernel : {S : Type 0} → ShelfModel S → S → List ℕ → ℕ → Bool → Index → S → Type 0
 ReachesKernel {S} M old path limit hold index mid =
     (next : Index → ClassedKernel → Course) →
-    LeadsTo M (reads_kernel path limit hold next) old (next index (index_kernel limit hold index.home index.packages)) mid
+    LeadsToRest M (reads_kernel path limit hold next) old (next index (index_kernel limit hold index.home index.packages)) mid

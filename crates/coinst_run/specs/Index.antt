@@ -4,7 +4,7 @@ use Rattle.std.specs.Prelude.{ℕ, List, Option, Some, None, Ok, Err}
 use Rattle.relation_fields.specs.{declared.packages.Home.{Home}, declared.packages.PackageFacts.{PackageFacts}}
 use Rattle.repo_model.specs.{declared.fault.IndexFault.{IndexFault}, declared.suite.Suite.{Suite}, FirstFault.{first_fault}}
 use Rattle.suite_compare.specs.Refusals.{home_in, packages_in}
-use Rattle.coinst_run.specs.{Answer.{Stage, refused}, Course.{Course, reads, then_on}, Faults.{fault_cause}, Lines.{fault_line}}
+use Rattle.coinst_run.specs.{Answer.{CourseStage, refused}, Course.{Course, reads, then_on}, Faults.{fault_cause}, Lines.{fault_line}}
 
 pub record Index : Type 0 where
   pub home : Home
@@ -18,11 +18,11 @@ abbrev pub index_of : Suite → Index
 index_of suite = record { home = suite.home; packages = suite.packages }
 
 -- an index by its first fault, where there is one
-abbrev pub by_fault : List ℕ → List ℕ → Option IndexFault → Stage Index
+abbrev pub by_fault : List ℕ → List ℕ → Option IndexFault → CourseStage Index
 by_fault path text None = Ok (index_in text)
 by_fault path text (Some fault) = Err (refused (fault_cause fault) (fault_line path fault))
 
-abbrev pub checked_index : List ℕ → List ℕ → Stage Index
+abbrev pub checked_index : List ℕ → List ℕ → CourseStage Index
 checked_index path text = by_fault path text (first_fault text)
 
 -- the index at a path

@@ -6,17 +6,17 @@ use Rattle.relation_fields.specs.declared.packages.PackageFacts.{PackageFacts}
 use Rattle.row_book.specs.{Book.{Sound, repository_of}, Rounds.{PassedRound, limit_at}}
 use Rattle.listed.specs.Lists.{In}
 use Rattle.coinst_run.specs.{declared.answer.Cause.TheVariants.{ClauseLimit}, declared.answer.ReportVerdict.TheVariants.{Done}}
-use Rattle.coinst_run.specs.{Answer.{Stage, reported, refused}, Course.{Course, answers, then_on}, Index.{Index, reads_index}}
+use Rattle.coinst_run.specs.{Answer.{CourseStage, reported, refused}, Course.{Course, answers, then_on}, Index.{Index, reads_index}}
 use Rattle.coinst_run.specs.{IndexKernel.{ClassedKernel, index_kernel, json_for, text_for}, Lines.{limit_line}}
 use Rattle.repo_model.specs.{Repository.{suite_repository}, Stanzas.{stanza_at}}
 
 -- the kernel of an index at a limit, with hold or without, by the round that passes the clause limit, where there is one
-abbrev pub by_limit : List ℕ → ℕ → Bool → Index → Option PassedRound → Stage ClassedKernel
+abbrev pub by_limit : List ℕ → ℕ → Bool → Index → Option PassedRound → CourseStage ClassedKernel
 by_limit path limit hold index None = Ok (index_kernel limit hold index.home index.packages)
 by_limit path limit hold index (Some passed) =
     Err (refused ClauseLimit (limit_line path limit passed.number passed.gone (stanza_at index.packages passed.over) passed.count))
 
-abbrev pub kernel_of : List ℕ → ℕ → Bool → Index → Stage ClassedKernel
+abbrev pub kernel_of : List ℕ → ℕ → Bool → Index → CourseStage ClassedKernel
 kernel_of path limit hold index = by_limit path limit hold index (limit_at limit hold (suite_repository index.home index.packages))
 
 -- the index at a path, and its kernel
@@ -35,8 +35,8 @@ abbrev pub kernel_course : List ℕ → Bool → ℕ → Bool → Course
 kernel_course path json limit hold = reads_kernel path limit hold (kernel_answer json)
 
 -- what a kernel over a pool says
-abbrev pub kernel_in : Interned → Kernel → ClassedKernel
-kernel_in pool made = record { repository = repository_of pool made.book; class_of = made.class_of; hold = made.hold; held = made.held }
+abbrev pub classed_in : Interned → Kernel → ClassedKernel
+classed_in pool made = record { repository = repository_of pool made.book; class_of = made.class_of; hold = made.hold; held = made.held }
 
 -- a kernel of the packages over a pool: a sound book, and for each package one of its classes
 pub record FitsSuite (pool : Interned) (packages : List PackageFacts) (made : Kernel) : Type 0 where

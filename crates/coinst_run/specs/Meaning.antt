@@ -30,8 +30,8 @@ of_job None files = not_a_command
 of_job (Some job) files = outcome_over files (course_of job)
 
 -- the outcome of the words over the files
-unfoldable pub outcome_of : List (List ℕ) → Files → Outcome
-outcome_of words files = of_job (job_of words) files
+unfoldable pub outcome_for : List (List ℕ) → Files → Outcome
+outcome_for words files = of_job (job_of words) files
 
 -- A kernel text has this meaning for the index, and the printed bytes are the JSON of the format, the repository, the members and
 -- the held classes that it reads for.

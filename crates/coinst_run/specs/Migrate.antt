@@ -1,8 +1,8 @@
 -- The command that takes names over from a newer index into an older one, without breaking any.
 use Rattle.std.specs.Prelude.{ℕ, Bool, List, ◌++◌, codes, Option, Some, None, Ok, Err}
-use Rattle.migrate_plan.specs.{Plan.{Settings, plan, settings_of}, Refusals.{plan_refusal}, declared.plan.PlanLine.{PlanLine}}
+use Rattle.migrate_plan.specs.{Plan.{Settings, plan, plan_settings}, Refusals.{plan_refusal}, declared.plan.PlanLine.{PlanLine}}
 use Rattle.migrate_plan.specs.{declared.refusals.PlanError.{PlanError}, declared.refusals.PlanError.TheVariants.{Homes, Names, Packages, TooLong, Memory}}
-use Rattle.coinst_run.specs.{declared.answer.Cause.TheVariants.{Content, TooLarge}, Answer.{Answer, Stage, refused, reported}}
+use Rattle.coinst_run.specs.{declared.answer.Cause.TheVariants.{Content, TooLarge}, Answer.{Answer, CourseStage, refused, reported}}
 use Rattle.coinst_run.specs.{Course.{Course, answers, reads, then_on}, Index.{Index, checked_index}, IndexKernel.{ClassedKernel}, Kernel.{kernel_of}}
 use Rattle.coinst_run.specs.{Lines.{about, memory_line, too_long_line}, MigrateText.{plan_text, plan_verdict}}
 
@@ -32,12 +32,12 @@ refusal_of old new (TooLong count) = refused TooLarge (too_long_line mix_path)
 refusal_of old new Memory = refused Content memory_line
 
 -- the lines of a plan, unless it is refused
-abbrev pub by_refusal : List ℕ → List ℕ → List PlanLine → Option PlanError → Stage (List PlanLine)
+abbrev pub by_refusal : List ℕ → List ℕ → List PlanLine → Option PlanError → CourseStage (List PlanLine)
 by_refusal old new lines None = Ok lines
 by_refusal old new lines (Some error) = Err (refusal_of old new error)
 
 -- the plan of the texts at two paths
-abbrev pub planned : List ℕ → List ℕ → Settings → List ℕ → List ℕ → Stage (List PlanLine)
+abbrev pub planned : List ℕ → List ℕ → Settings → List ℕ → List ℕ → CourseStage (List PlanLine)
 planned old new settings first second = by_refusal old new (plan settings first second) (plan_refusal first second)
 
 -- the report on a plan
@@ -55,15 +55,15 @@ abbrev pub new_course : List ℕ → List ℕ → Settings → List ℕ → Cour
 new_course old new settings first = reads new (new_answer old new settings first)
 
 -- the kernel of an index that was checked
-abbrev pub kernel_behind : List ℕ → ℕ → Bool → Stage Index → Stage ClassedKernel
+abbrev pub kernel_behind : List ℕ → ℕ → Bool → CourseStage Index → CourseStage ClassedKernel
 kernel_behind path limit hold (Ok index) = kernel_of path limit hold index
 kernel_behind path limit hold (Err answer) = Err answer
 
-abbrev pub kernel_at : List ℕ → ℕ → Bool → List ℕ → Stage ClassedKernel
+abbrev pub kernel_at : List ℕ → ℕ → Bool → List ℕ → CourseStage ClassedKernel
 kernel_at path limit hold text = kernel_behind path limit hold (checked_index path text)
 
 abbrev pub old_answer : List ℕ → List ℕ → Settings → List ℕ → Course
 old_answer old new settings first = then_on (kernel_at old settings.limit settings.hold first) (λ kernel. new_course old new settings first)
 
 abbrev pub migrate_course : List ℕ → List ℕ → ℕ → ℕ → Bool → Course
-migrate_course old new budget limit hold = reads old (old_answer old new (settings_of budget limit hold))
+migrate_course old new budget limit hold = reads old (old_answer old new (plan_settings budget limit hold))

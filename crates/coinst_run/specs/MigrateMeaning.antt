@@ -1,12 +1,12 @@
 -- What the report on a plan means for the two indexes.
 use Rattle.std.specs.Prelude.{◌≡◌, ℕ, Bool, List, [], map, None, Some, ◌∷◌}
 use Rattle.byte_flow.specs.History.{OpenedFile}
-use Rattle.migrate_plan.specs.{Differing.{differing}, Plan.{settings_of}, Promises.{AreRight, MixesAreIndexes, TakesSafely, planned_name}}
+use Rattle.migrate_plan.specs.{Differing.{differing}, Plan.{plan_settings}, Promises.{AreRight, MixesAreIndexes, TakesSafely, planned_name}}
 use Rattle.migrate_plan.specs.{Refusals.{plan_refusal}, declared.plan.PlanLine.{PlanLine}}
 use Rattle.repo_model.specs.{FirstFault.{first_fault}, declared.goals.Goal.{Goal}}
 use Rattle.suite_compare.specs.{Asking.{HasVerdict, verdict_in}, Refusals.{home_in, packages_in}}
 use Rattle.coinst_run.specs.{declared.answer.ReportVerdict.{ReportVerdict}, Answer.{reported}, Migrate.{migrate_course}, MigrateText.{plan_text, plan_verdict}}
-use Rattle.coinst_run.specs.Outcome.{Gives}
+use Rattle.coinst_run.specs.Outcome.{GivesAnswer}
 
 -- Both texts are indexes without a fault, of which a plan may be made, and every mix of names that differ is an index without a
 -- fault. The printed lines are one for each name that differs, ascending by bytes. A name is taken where the mix of it and of the
@@ -21,13 +21,13 @@ pub record MigrateMeans (old new : List ℕ) (budget limit : ℕ) (hold : Bool) 
   pub mixes : MixesAreIndexes old new
   pub lines : List PlanLine
   pub names : map planned_name lines ≡ differing (packages_in old) (packages_in new)
-  pub each : AreRight (settings_of budget limit hold) old new [] lines
+  pub each : AreRight (plan_settings budget limit hold) old new [] lines
   pub judged : (text : List ℕ) (goals : List Goal) → HasVerdict limit hold (home_in text) (packages_in text) budget goals (verdict_in limit hold (home_in text) (packages_in text) budget goals)
-  pub safely : TakesSafely (settings_of budget limit hold) old new lines
+  pub safely : TakesSafely (plan_settings budget limit hold) old new lines
   pub reads : printed ≡ plan_text lines
   pub whole : verdict ≡ plan_verdict lines
 
 -- what is reported of two files means this for their texts
 abbrev pub MigrateIsMeant : Type 0
-MigrateIsMeant = (old new : List ℕ) (budget limit : ℕ) (hold : Bool) (readings : List OpenedFile) (verdict : ReportVerdict) (printed : List ℕ) → Gives (migrate_course old new budget limit hold) readings (reported verdict printed) →
+MigrateIsMeant = (old new : List ℕ) (budget limit : ℕ) (hold : Bool) (readings : List OpenedFile) (verdict : ReportVerdict) (printed : List ℕ) → GivesAnswer (migrate_course old new budget limit hold) readings (reported verdict printed) →
     (first second : List ℕ) × (readings ≡ (old, first) ∷ (new, second) ∷ []) × MigrateMeans first second budget limit hold verdict printed

@@ -3,7 +3,7 @@ use Rattle.std.specs.{Prelude.{ℕ, Bool, true, false, not, List, ◌++◌, code
 use Rattle.migrate_plan.specs.{declared.plan.PlanLine.{PlanLine}, declared.plan.PlanLine.TheVariants.{Take, LeftLimit, LeftLine}}
 use Rattle.coinst_run.specs.{declared.answer.ReportVerdict.{ReportVerdict}, declared.answer.ReportVerdict.TheVariants.{Done, Negative, Undecided}}
 use Rattle.coinst_run.specs.{CompareText.{comparison_line}, Lines.{end_text, pair_text, single_text}}
-use Rattle.headline.specs.Listing.{is_broken}
+use Rattle.suite_compare.specs.Listing.{is_broken}
 
 -- a name that is taken; one that is left since the limit is passed; and one that is left with a line of a comparison
 abbrev pub plan_line : PlanLine → List ℕ
@@ -16,8 +16,8 @@ is_take (Take name) = true
 is_take (LeftLimit name) = false
 is_take (LeftLine name line) = false
 
-abbrev pub is_left : PlanLine → Bool
-is_left line = not (is_take line)
+abbrev pub is_not_taken : PlanLine → Bool
+is_not_taken line = not (is_take line)
 
 -- the name is left since something would be broken
 abbrev pub would_break : PlanLine → Bool
@@ -27,8 +27,8 @@ would_break (LeftLine name line) = is_broken line
 
 -- the lines in their order, and how many names are taken, and how many left
 unfoldable pub plan_text : List PlanLine → List ℕ
-plan_text lines = flat_map plan_line lines ++ end_text (length (filter is_take lines)) (length (filter is_left lines))
+plan_text lines = flat_map plan_line lines ++ end_text (length (filter is_take lines)) (length (filter is_not_taken lines))
 
 -- a name is left since something would be broken, or a name is left, or neither
 abbrev pub plan_verdict : List PlanLine → ReportVerdict
-plan_verdict lines = if list_any would_break lines then Negative else (if list_any is_left lines then Undecided else Done)
+plan_verdict lines = if list_any would_break lines then Negative else (if list_any is_not_taken lines then Undecided else Done)

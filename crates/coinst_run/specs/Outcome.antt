@@ -32,10 +32,10 @@ outcome_over files (answers answer) = answered answer
 outcome_over files (reads path next) = over_file path (files path) (λ text. outcome_over files (next text))
 
 -- where a course leads if its files have these texts, one after another
-pub data Gives : Course → List OpenedFile → Answer → Type 0 where
-  at_once : (answer : Answer) → Gives (answers answer) [] answer
-  by_text : (path text : List ℕ) (next : List ℕ → Course) (readings : List OpenedFile) (answer : Answer) → length text ≤ file_limit → Gives (next text) readings answer →
-      Gives (reads path next) ((path, text) ∷ readings) answer
+pub data GivesAnswer : Course → List OpenedFile → Answer → Type 0 where
+  at_once : (answer : Answer) → GivesAnswer (answers answer) [] answer
+  by_text : (path text : List ℕ) (next : List ℕ → Course) (readings : List OpenedFile) (answer : Answer) → length text ≤ file_limit → GivesAnswer (next text) readings answer →
+      GivesAnswer (reads path next) ((path, text) ∷ readings) answer
 
 -- the status, the report and the line of an outcome; no line with a report, and no report with a line
 abbrev pub status_of : Outcome → Status

@@ -17,9 +17,9 @@ pub record HasIndex (files : Files) (path text : List ℕ) : Type 0 where
   pub accepted : first_fault text ≡ None
 
 -- no package of the index passes the clause limit in any round
-abbrev pub IsWithin : ℕ → Bool → List ℕ → Type 0
-IsWithin limit hold text = limit_at limit hold (suite_repository (home_in text) (packages_in text)) ≡ None
+abbrev pub IsWithinLimit : ℕ → Bool → List ℕ → Type 0
+IsWithinLimit limit hold text = limit_at limit hold (suite_repository (home_in text) (packages_in text)) ≡ None
 
 -- an index at the path, whose packages stay within the clause limit
 abbrev pub HasKernel : Files → List ℕ → ℕ → Bool → List ℕ → Type 0
-HasKernel files path limit hold text = HasIndex files path text × IsWithin limit hold text
+HasKernel files path limit hold text = HasIndex files path text × IsWithinLimit limit hold text

@@ -7,7 +7,7 @@ use Rattle.row_book.specs.Rounds.{kernel}
 use Rattle.search_terms.specs.{declared.literals.Literal.{Literal}, Derives.{Derives}, Form.{form}, Tree.{failed_leaves}}
 use Rattle.suite_compare.specs.{Answering.{Serves}, Asking.{asked_tree, images_of}, Refusals.{home_in, packages_in}}
 use Rattle.coinst_run.specs.{declared.answer.ReportVerdict.{ReportVerdict}, declared.answer.ReportVerdict.TheVariants.{Done, Negative, Undecided}}
-use Rattle.coinst_run.specs.{Answer.{reported}, Outcome.{Gives}, Query.{query_course}, QueryText.{no_text, undecided_text, yes_text}}
+use Rattle.coinst_run.specs.{Answer.{reported}, Outcome.{GivesAnswer}, Query.{query_course}, QueryText.{no_text, undecided_text, yes_text}}
 
 -- The printed packages, which no other ones are printed as, are in file order, and are a healthy set of stanzas that has a
 -- package for each goal.
@@ -46,5 +46,5 @@ pub record QueryMeans (text : List ℕ) (goals : List Goal) (budget limit : ℕ)
 
 -- what is reported of a file means this for its text
 abbrev pub QueryIsMeant : Type 0
-QueryIsMeant = (path : List ℕ) (goals : List Goal) (budget limit : ℕ) (hold : Bool) (readings : List OpenedFile) (verdict : ReportVerdict) (printed : List ℕ) → Gives (query_course path goals budget limit hold) readings (reported verdict printed) →
+QueryIsMeant = (path : List ℕ) (goals : List Goal) (budget limit : ℕ) (hold : Bool) (readings : List OpenedFile) (verdict : ReportVerdict) (printed : List ℕ) → GivesAnswer (query_course path goals budget limit hold) readings (reported verdict printed) →
     (text : List ℕ) × (readings ≡ (path, text) ∷ []) × QueryMeans text goals budget limit hold verdict printed

@@ -4,7 +4,7 @@ use Rattle.byte_flow.specs.{Flow.{Files}, History.{OpenedFile, noted}, Models.{S
 use Rattle.coinst_words.specs.{Jobs.{job_of}, declared.job.Job.{Job}}
 use Rattle.coinst_run.specs.{declared.answer.Cause.{Cause}, declared.answer.Cause.TheVariants.{Content, ClauseLimit, UnknownGoal, TooLarge}}
 use Rattle.coinst_run.specs.{declared.answer.ReportVerdict.{ReportVerdict}, declared.status.Status.{Status}, Status.{code_of, verdict_status}, Answer.{refused}}
-use Rattle.coinst_run.specs.{Meaning.{course_of}, Outcome.{Gives, file_limit}}
+use Rattle.coinst_run.specs.{Meaning.{course_of}, Outcome.{GivesAnswer, file_limit}}
 
 -- These files were read one after another, each whole, by these calls of the shelf and no others. Each is a path, and the text that
 -- the reads of its reading handed over.
@@ -41,7 +41,7 @@ IsOfText TooLarge = ⊥
 
 -- A run read these files whole, and refused what it read: the course of its job leads to this line. It wrote nothing to the first sink, and
 -- the line to the second one.
-pub record Refuses {S O : Type 0} (M : ShelfModel S) (old new : S) (out out_after : O) (words : List (List ℕ)) (cause : Cause) (Line : List ℕ → Type 0) : Type 0 where
+pub record RunRefuses {S O : Type 0} (M : ShelfModel S) (old new : S) (out out_after : O) (words : List (List ℕ)) (cause : Cause) (Line : List ℕ → Type 0) : Type 0 where
   pub readings : List OpenedFile
   pub line : List ℕ
   pub was_read : HasRead M old readings new
@@ -50,7 +50,7 @@ pub record Refuses {S O : Type 0} (M : ShelfModel S) (old new : S) (out out_afte
   pub said : Line line
   pub job : Job
   pub asked : job_of words ≡ Some job
-  pub leads : Gives (course_of job) readings (refused cause line)
+  pub leads : GivesAnswer (course_of job) readings (refused cause line)
 
 -- The same by what was noted of the calls of the system. These are the files that were opened, the newest first, each with the bytes that its
 -- reads handed over; and the bytes that the writes took.

@@ -8,7 +8,7 @@ use Rattle.listed.specs.Lists.{Ascending, In, has}
 use Rattle.search_terms.specs.{declared.literals.Literal.{Literal}, Derives.{Derives}, Form.{form}, Tree.{failed_leaves}}
 use Rattle.suite_compare.specs.Asking.{tree_of}
 use Rattle.coinst_run.specs.{declared.answer.ReportVerdict.{ReportVerdict}, declared.answer.ReportVerdict.TheVariants.{Done, Negative, Undecided}}
-use Rattle.coinst_run.specs.{Answer.{reported}, Outcome.{Gives}, QueryText.{no_text, undecided_text}, StoredQuery.{listed_classes, stored_query_course}}
+use Rattle.coinst_run.specs.{Answer.{reported}, Outcome.{GivesAnswer}, QueryText.{no_text, undecided_text}, StoredQuery.{listed_classes, stored_query_course}}
 
 -- The goals are co-installable: the printed classes, which no other ones are printed as, are ascending and serve them.
 pub record StoredYes (kernel : KernelContent) (goals : List Goal) (budget : ℕ) (printed : List ℕ) : Type 0 where
@@ -49,5 +49,5 @@ pub record StoredMeans (text : List ℕ) (goals : List Goal) (budget : ℕ) (ver
 
 -- what is reported of a file means this for its text
 abbrev pub StoredQueryIsMeant : Type 0
-StoredQueryIsMeant = (path : List ℕ) (goals : List Goal) (budget : ℕ) (readings : List OpenedFile) (verdict : ReportVerdict) (printed : List ℕ) → Gives (stored_query_course path goals budget) readings (reported verdict printed) →
+StoredQueryIsMeant = (path : List ℕ) (goals : List Goal) (budget : ℕ) (readings : List OpenedFile) (verdict : ReportVerdict) (printed : List ℕ) → GivesAnswer (stored_query_course path goals budget) readings (reported verdict printed) →
     (text : List ℕ) × (readings ≡ (path, text) ∷ []) × StoredMeans text goals budget verdict printed

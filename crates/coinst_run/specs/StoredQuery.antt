@@ -5,7 +5,7 @@ use Rattle.kernel_text.specs.{declared.fault.KernelFault.TheVariants.{Line, End,
 use Rattle.repo_model.specs.declared.goals.Goal.{Goal}
 use Rattle.row_book.specs.{Numbers.{numbers}, Flags.{flag}}
 use Rattle.suite_compare.specs.Asking.{tree_of}
-use Rattle.coinst_run.specs.{declared.answer.Cause.TheVariants.{Content}, Answer.{Answer, Stage, refused}, Course.{Course, answers, reads, then_on}}
+use Rattle.coinst_run.specs.{declared.answer.Cause.TheVariants.{Content}, Answer.{Answer, CourseStage, refused}, Course.{Course, answers, reads, then_on}}
 use Rattle.coinst_run.specs.{Lines.{about, at_line, counted_line, line_of_text}, Query.{by_tree, unknown_answer}}
 
 -- why a text is not that of a kernel
@@ -20,11 +20,11 @@ kernel_fault_line path fault = about path (kernel_fault_text fault)
 
 -- A stored kernel by the reading of its text: its classes and their packages, or its fault. `stored_reading` is the reading and
 -- the fault of the grammar, and nothing else: the law `texts_are_told`.
-abbrev pub by_reading : List ℕ → Result KernelContent KernelFault → Stage KernelContent
+abbrev pub by_reading : List ℕ → Result KernelContent KernelFault → CourseStage KernelContent
 by_reading path (Ok kernel) = Ok kernel
 by_reading path (Err fault) = Err (refused Content (kernel_fault_line path fault))
 
-abbrev pub checked_kernel : List ℕ → List ℕ → Stage KernelContent
+abbrev pub checked_kernel : List ℕ → List ℕ → CourseStage KernelContent
 checked_kernel path text = by_reading path (stored_reading text)
 
 -- a true class

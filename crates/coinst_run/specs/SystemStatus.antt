@@ -5,7 +5,7 @@ use Rattle.repo_model.specs.{declared.fault.IndexFault.{IndexFault}, Repository.
 use Rattle.suite_compare.specs.Asking.{verdict_in}
 use Rattle.status_check.specs.{Own.{foreign_count, own_home, own_packages, status_fault}, Report.{all_of, had_goals, line_for, state_of}, States.{set_state}}
 use Rattle.status_check.specs.declared.report.StatusReport.{StatusReport}
-use Rattle.coinst_run.specs.{Answer.{Answer, Stage, reported, refused}, Course.{Course, answers, reads, then_on}, Faults.{fault_cause}, Index.{Index}}
+use Rattle.coinst_run.specs.{Answer.{Answer, CourseStage, reported, refused}, Course.{Course, answers, reads, then_on}, Faults.{fault_cause}, Index.{Index}}
 use Rattle.coinst_run.specs.{IndexKernel.{ClassedKernel}, Kernel.{reads_kernel}, Lines.{fault_line}, SystemText.{system_text, system_verdict}}
 
 -- an installed system: its own packages, those of no other architecture than `all` and the home of the index, with their home,
@@ -20,11 +20,11 @@ abbrev pub system_in : Home → List ℕ → System
 system_in home text = record { home = own_home home text; packages = own_packages home text; foreign = foreign_count home text }
 
 -- a status file by its first fault, where there is one
-abbrev pub system_by_fault : List ℕ → Home → List ℕ → Option IndexFault → Stage System
+abbrev pub system_by_fault : List ℕ → Home → List ℕ → Option IndexFault → CourseStage System
 system_by_fault path home text None = Ok (system_in home text)
 system_by_fault path home text (Some fault) = Err (refused (fault_cause fault) (fault_line path fault))
 
-abbrev pub checked_system : List ℕ → Home → List ℕ → Stage System
+abbrev pub checked_system : List ℕ → Home → List ℕ → CourseStage System
 checked_system path home text = system_by_fault path home text (status_fault home text)
 
 -- what is told of a system against an index, at a clause limit, with hold or without

@@ -1,7 +1,7 @@
 //! The report of a comparison, made whole in memory.
 ghost use Rattle.std.specs.{Prelude.{◌≡◌, ◌++◌, IfOk, OnOk, filter, length}, List.{list_any}};
-ghost use Rattle.coinst_run.specs.CompareText.{comparison_line, comparison_text, comparison_verdict, is_open};
-ghost use Rattle.headline.specs.Listing.{is_broken};
+ghost use Rattle.coinst_run.specs.CompareText.{comparison_line, comparison_text, comparison_verdict, is_open_line};
+ghost use Rattle.suite_compare.specs.Listing.{is_broken};
 
 use crate::answer::ReportVerdict;
 use crate::lines::{Made, Put, push_end, push_pair, push_single};
@@ -49,7 +49,7 @@ fn count_broken(lines: &[ReportLine]) -> usize
 
 // How many lines tell of something open.
 fn count_open(lines: &[ReportLine]) -> usize
-    ensures { result ≡ length (filter is_open lines.now) }
+    ensures { result ≡ length (filter is_open_line lines.now) }
 {
     let mut count = 0;
     for line in lines {
@@ -82,7 +82,7 @@ fn has_broken(lines: &[ReportLine]) -> bool
 
 // Whether some line tells of something open.
 fn has_open(lines: &[ReportLine]) -> bool
-    ensures { result ≡ list_any is_open lines.now }
+    ensures { result ≡ list_any is_open_line lines.now }
 {
     lines.iter().any(|line| !is_broken(line))
 }

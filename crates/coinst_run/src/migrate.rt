@@ -2,7 +2,7 @@
 ghost use Rattle.std.specs.Prelude.{◌≡◌, ◌<◌, ◌≤◌, ℕ, List, Option, IfOk, length};
 ghost use Rattle.clause_solver.specs.Outcomes.{IsBudget};
 ghost use Rattle.coinst_words.specs.Jobs.{AreInLimits};
-ghost use Rattle.migrate_plan.specs.{Indexes.{AreMeasured, Texts}, Plan.{settings_of}, Refusals.{Refuses}, declared.plan.PlanLine.{PlanLine}};
+ghost use Rattle.migrate_plan.specs.{Indexes.{AreMeasured, Texts}, Plan.{plan_settings}, Refusals.{RefusesPlan}, declared.plan.PlanLine.{PlanLine}};
 ghost use Rattle.migrate_plan.specs.declared.refusals.PlanError.{PlanError};
 ghost use Rattle.repo_model.specs.{Feeding.{IsSuiteOf}, Limits.{most_bytes}};
 ghost use Rattle.coinst_run.specs.{Ending.{Settles, StopsAt, ending_of, stop_ending}, Follows.{Follows}};
@@ -54,7 +54,7 @@ fn with_newer<F: Shelf>(
     requires budget { IsBudget budget }
     requires limit { 0 < view.now.limit }
     ensures { (text : List ℕ) → IsSuiteOf text view.now.suite.packages view.now.suite.home.name → old_length ≡ length text
-        → Follows F.model (new_course old.now new.now (settings_of budget view.now.limit view.now.kernel.hold) text) shelf.old (ending_of result) shelf.new }
+        → Follows F.model (new_course old.now new.now (plan_settings budget view.now.limit view.now.kernel.hold) text) shelf.old (ending_of result) shelf.new }
 {
     let newer = measured_at(alloc, shelf, new)?;
     let lengths = TextLengths {
@@ -82,7 +82,7 @@ fn plan_report(
     requires budget { IsBudget budget }
     requires limit { 0 < view.now.limit }
     ensures { (texts : Texts) → AreMeasured texts view.now.suite newer.now lengths
-        → Settles (plan_answer old.now new.now (settings_of budget view.now.limit view.now.kernel.hold) texts.old texts.new) (ending_of result) }
+        → Settles (plan_answer old.now new.now (plan_settings budget view.now.limit view.now.kernel.hold) texts.old texts.new) (ending_of result) }
 {
     match plan_between(alloc, view, newer, lengths, budget) {
         Ok(plan) => {
@@ -95,7 +95,7 @@ fn plan_report(
 
 // The stop where no plan is made of the indexes at two paths.
 fn refusal(alloc: Global, old: &str, new: &str, error: PlanError) -> Stop
-    ensures { (lines : List PlanLine) (there : Option PlanError) → Refuses error there → StopsAt (by_refusal old.now new.now lines there) (stop_ending result) }
+    ensures { (lines : List PlanLine) (there : Option PlanError) → RefusesPlan error there → StopsAt (by_refusal old.now new.now lines there) (stop_ending result) }
 {
     match error {
         PlanError::Homes => Stop::refused(Cause::Content, homes_line(alloc, old, new)),

@@ -1,6 +1,6 @@
 //! The report on a plan, made whole in memory.
 ghost use Rattle.std.specs.{Prelude.{◌≡◌, ◌++◌, IfOk, OnOk, codes, filter, length}, List.{list_any}};
-ghost use Rattle.coinst_run.specs.{CompareText.{comparison_line}, MigrateText.{is_left, is_take, plan_line, plan_text, plan_verdict, would_break}};
+ghost use Rattle.coinst_run.specs.{CompareText.{comparison_line}, MigrateText.{is_not_taken, is_take, plan_line, plan_text, plan_verdict, would_break}};
 
 use crate::answer::ReportVerdict;
 use crate::compare_text::{is_broken, push_line};
@@ -63,7 +63,7 @@ fn count_taken(lines: &[PlanLine]) -> usize
 
 // How many names are left.
 fn count_left(lines: &[PlanLine]) -> usize
-    ensures { result ≡ length (filter is_left lines.now) }
+    ensures { result ≡ length (filter is_not_taken lines.now) }
 {
     let mut count = 0;
     for line in lines {
@@ -96,7 +96,7 @@ fn has_break(lines: &[PlanLine]) -> bool
 
 // Whether some name is left.
 fn has_left(lines: &[PlanLine]) -> bool
-    ensures { result ≡ list_any is_left lines.now }
+    ensures { result ≡ list_any is_not_taken lines.now }
 {
     lines.iter().any(|line| !is_take(line))
 }

@@ -2,8 +2,8 @@
 ghost use Rattle.std.specs.Prelude.{◌≡◌, ◌⊎◌, IfSome, None, Option, map, string_bytes};
 ghost use Rattle.byte_flow.specs.Flow.{Rose};
 ghost use Rattle.claims.specs.Sentences.{CompareIsTrue, ExplainIsTrue, KernelIsSettled, KernelIsTrue, MigrateIsTrue, QueryIsTrue, StatusIsTrue, StoredQueryIsTrue};
-ghost use Rattle.coinst_run.specs.{Delivers.{Delivers, Tells}, Ending.{ending_of}, Follows.{Follows, FollowsJob}, Meaning.{IsMeant, course_of, outcome_of}};
-ghost use Rattle.coinst_run.specs.{Outcome.{Outcome}, Readings.{IsOfText, Prints, Refuses, Reports}, Run.{Answers, Completes}};
+ghost use Rattle.coinst_run.specs.{Delivers.{Delivers, Tells}, Ending.{ending_of}, Follows.{Follows, FollowsJob}, Meaning.{IsMeant, course_of, outcome_for}};
+ghost use Rattle.coinst_run.specs.{Outcome.{Outcome}, Readings.{IsOfText, Prints, RunRefuses, Reports}, Run.{RunAnswers, Completes}};
 ghost use Rattle.coinst_run.specs.{Status.{cause_status, verdict_status}, declared.answer.Cause.{Cause}, declared.answer.ReportVerdict.{ReportVerdict}};
 ghost use Rattle.coinst_words.specs.Jobs.{IsInLimits, job_of};
 
@@ -68,8 +68,8 @@ pub fn run<F: Shelf, O: Sink, E: Sink>(
     err: &mut E,
 ) -> Status
     // Where the shelf tells its contents, the status and the bytes are those of the outcome, or of one of three causes.
-    ensures answers { IfSome (F.model.contents shelf.old) (λ files. Answers (F.model.is_quiet shelf.old) (Rose (F.model.faults shelf.old) (F.model.faults shelf.new)) (Rose (O.model.faults out.old) (O.model.faults out.new)) (O.model.room out.old)
-        (Tells E.model err.old err.new) (outcome_of (map string_bytes words.now) files) (O.model.taken out.old) (O.model.taken out.new) result) }
+    ensures answers { IfSome (F.model.contents shelf.old) (λ files. RunAnswers (F.model.is_quiet shelf.old) (Rose (F.model.faults shelf.old) (F.model.faults shelf.new)) (Rose (O.model.faults out.old) (O.model.faults out.new)) (O.model.room out.old)
+        (Tells E.model err.old err.new) (outcome_for (map string_bytes words.now) files) (O.model.taken out.old) (O.model.taken out.new) result) }
 
     // On any shelf and any sinks: if the status is that of a report, the run read its files whole, wrote these bytes whole, and did no more; and they
     // mean what the stanzas say of the texts that the reads handed over.
@@ -86,10 +86,10 @@ pub fn run<F: Shelf, O: Sink, E: Sink>(
     ensures migrate_is_true { Prints F.model O.model shelf.old shelf.new out.old out.new result (MigrateIsTrue (map string_bytes words.now)) }
 
     // If the status is that of a refusal for what was read, the line is that to which the course of the command leads over it, and no report was written.
-    ensures refuses { (cause : Cause) → IsOfText cause → result ≡ cause_status cause → Refuses F.model shelf.old shelf.new out.old out.new (map string_bytes words.now) cause (Tells E.model err.old err.new) }
+    ensures refuses { (cause : Cause) → IsOfText cause → result ≡ cause_status cause → RunRefuses F.model shelf.old shelf.new out.old out.new (map string_bytes words.now) cause (Tells E.model err.old err.new) }
 
     // Where no call failed, a report is written whole unless no memory is found.
-    ensures completes { IfSome (F.model.contents shelf.old) (λ files. (Rose (F.model.faults shelf.old) (F.model.faults shelf.new) → ⊥) → (Rose (O.model.faults out.old) (O.model.faults out.new) → ⊥) → Completes result (outcome_of (map string_bytes words.now) files)) }
+    ensures completes { IfSome (F.model.contents shelf.old) (λ files. (Rose (F.model.faults shelf.old) (F.model.faults shelf.new) → ⊥) → (Rose (O.model.faults out.old) (O.model.faults out.new) → ⊥) → Completes result (outcome_for (map string_bytes words.now) files)) }
 
     // On any shelf and any sinks: what the run did, by how it ended. How it ended decides the status and which line standard error
     // is given, so a fault of standard error changes neither the status nor the report.

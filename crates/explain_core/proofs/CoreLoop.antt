@@ -13,22 +13,22 @@ use Rattle.row_book.proofs.BookRepositories.{book_size}
 use Rattle.listed.proofs.Lists.{In_append_cases, In_append_left, In_append_right, In_cases, In_none}
 use Rattle.suite_compare.specs.{Asking.{image_of, images_of, tree_of, verdict_in, verdict_of}, Views.{IsViewOf}}
 use Rattle.suite_compare.proofs.{Deciding.{images_fit}, Judged.{verdict_is}}
-use Rattle.explain_core.specs.{Core.{goal_core, goal_numbered, goals_numbered, marks_of, verdict_on}, Deletion.{Kept, is_no, items_of, kept_behind, kept_by}}
-use Rattle.explain_core.specs.{Picking.{picked, ArePlacesFrom1}, declared.explanation.Mark.{Mark}}
+use Rattle.explain_core.specs.Core.{goal_core, goal_numbered, goals_numbered, marks_of, verdict_on}
+use Rattle.explain_core.specs.{Deletion.{KeptItem, is_no, items_of, kept_behind, kept_by}, Picking.{picked, ArePlacesFrom1}, declared.explanation.Mark.{Mark}}
 use Rattle.explain_core.proofs.{AtOnce.{goals_at_once, In_map_more}, Deleted.{block_left_out, no_is}}
 use Rattle.explain_core.proofs.Told.{kept_mark, kept_marks, marks_back, marks_items, marks_there, picked_numbered, rest_numbered}
 
 -- one item more
-behind_more : {X : Type 0} (f : List X → Verdict) (before : List (Kept X)) (x : X) (after : List X) (v : Verdict) → v ≡ f (items_of before ++ after) →
+behind_more : {X : Type 0} (f : List X → Verdict) (before : List (KeptItem X)) (x : X) (after : List X) (v : Verdict) → v ≡ f (items_of before ++ after) →
     kept_behind f before (x ∷ after) ≡ kept_behind f (before ++ kept_by x v) after
 unfolding kept_behind
 behind_more f before x after v e = ap (λ w. kept_behind f (before ++ kept_by x w) after) (sym e)
 
-pub behind_none : {X : Type 0} (f : List X → Verdict) (before : List (Kept X)) (after : List X) → after ≡ [] → kept_behind f before after ≡ before
+pub behind_none : {X : Type 0} (f : List X → Verdict) (before : List (KeptItem X)) (after : List X) → after ≡ [] → kept_behind f before after ≡ before
 unfolding kept_behind
 behind_none f before after e = ap (kept_behind f before) e
 
-pub behind_step : {X : Type 0} (f : List X → Verdict) (all : List (Kept X)) (before new : List (Kept X)) (x : X) (left after : List X) (v : Verdict) → v ≡ f (items_of before ++ after) →
+pub behind_step : {X : Type 0} (f : List X → Verdict) (all : List (KeptItem X)) (before new : List (KeptItem X)) (x : X) (left after : List X) (v : Verdict) → v ≡ f (items_of before ++ after) →
     left ≡ x ∷ after → new ≡ before ++ kept_by x v → all ≡ kept_behind f before left → all ≡ kept_behind f new after
 behind_step f all before new x left after v told cut more e =
     e ∙ ap (kept_behind f before) cut ∙ behind_more f before x after v told ∙ ap (λ b. kept_behind f b after) (sym more)
@@ -42,7 +42,7 @@ range_cut a (suc n) m =
     ap (range_with_len a) e ∙ ap (λ l. a ∷ l) (range_cut (a + 1) n m ∙ ap (λ k. range_with_len (a + 1) n ++ range_with_len k m) at)
 
 -- marks of what one verdict keeps
-pub marks_more : (marks new : List Mark) (kept : List (Kept ℕ)) → new ≡ marks ++ marks_of kept → kept_marks new ≡ kept_marks marks ++ kept
+pub marks_more : (marks new : List Mark) (kept : List (KeptItem ℕ)) → new ≡ marks ++ marks_of kept → kept_marks new ≡ kept_marks marks ++ kept
 marks_more marks new kept e = ap kept_marks e ∙ map-append kept_mark marks (marks_of kept) ∙ ap (λ l. kept_marks marks ++ l) (marks_back kept)
 
 pub places_more : (marks new : List Mark) (place : ℕ) (v : Verdict) → new ≡ marks ++ marks_of (kept_by (place + 1) v) → ArePlacesFrom1 place marks → ArePlacesFrom1 (place + 1) new

@@ -8,7 +8,7 @@ use Rattle.listed.specs.Lists.{In}
 use Rattle.listed.proofs.Lists.{In_map, In_map_cases}
 use Rattle.suite_compare.specs.Asking.{verdict_in, HasVerdict}
 use Rattle.suite_compare.proofs.Deciding.{verdict_is_judged}
-use Rattle.explain_core.specs.{Core.{goal_core, goal_numbered, goals_numbered, marked_goals, marks_of, verdict_on}, Deletion.{Kept, items_of, kept_of}}
+use Rattle.explain_core.specs.{Core.{goal_core, goal_numbered, goals_numbered, marked_goals, marks_of, verdict_on}, Deletion.{KeptItem, items_of, kept_of}}
 use Rattle.explain_core.specs.Meaning.{IsCoreOf}
 use Rattle.explain_core.proofs.{Deleted.{Suffice, kept_needed, kept_no}, Told.{all_numbered, kept_mark, kept_marks, marks_back, marks_items}}
 
@@ -34,7 +34,7 @@ module _ (limit : ℕ) (hold : Bool) (home : Home) (stanzas : List PackageFacts)
         subst (λ x. In x (goals_numbered goals more)) (sym w.2) (In_map (goal_numbered goals) more w.0 (h w.0 w.1))
 
     -- the goals of what was kept
-    goals_kept : (core : List (Kept ℕ)) → marked_goals goals (marks_of core) ≡ goals_numbered goals (items_of core)
+    goals_kept : (core : List (KeptItem ℕ)) → marked_goals goals (marks_of core) ≡ goals_numbered goals (items_of core)
     goals_kept core = ap (goals_numbered goals) (sym (marks_items (marks_of core)) ∙ ap items_of (marks_back core))
 
     -- of a no

@@ -4,14 +4,14 @@ use Rattle.std.proofs.lemmas.List.{append-nil, map-append}
 use Rattle.listed.specs.Lists.{In, here, there}
 use Rattle.listed.proofs.Lists.{In_cases, In_none, In_append_cases, In_append_left, In_append_right}
 use Rattle.clause_solver.specs.{declared.outcomes.Verdict.{Verdict}, declared.outcomes.Verdict.TheVariants.{Yes, No, Spent}}
-use Rattle.explain_core.specs.Deletion.{Kept, kept, is_no, items_of, kept_by, kept_behind, kept_of}
+use Rattle.explain_core.specs.Deletion.{KeptItem, kept, is_no, items_of, kept_by, kept_behind, kept_of}
 
 -- the items that stay with one more
-items_more : {X : Type 0} (before : List (Kept X)) (x : X) (b : Bool) (after : List X) → items_of (before ++ kept x b ∷ []) ++ after ≡ items_of before ++ x ∷ after
+items_more : {X : Type 0} (before : List (KeptItem X)) (x : X) (b : Bool) (after : List X) → items_of (before ++ kept x b ∷ []) ++ after ≡ items_of before ++ x ∷ after
 items_more before x b after = ap (λ l. l ++ after) (map-append (λ k. k.item) before (kept x b ∷ [])) ∙ append_assoc (items_of before) (x ∷ []) after
 
 -- a block each item of which has the verdict no, whatever of the block is still behind it, is left out
-pub block_left_out : {X : Type 0} (f : List X → Verdict) (before : List (Kept X)) (block after : List X) → ((front : List X) → ((x : X) → In x front → In x block) → f (items_of before ++ (front ++ after)) ≡ No)
+pub block_left_out : {X : Type 0} (f : List X → Verdict) (before : List (KeptItem X)) (block after : List X) → ((front : List X) → ((x : X) → In x front → In x block) → f (items_of before ++ (front ++ after)) ≡ No)
     → kept_behind f before (block ++ after) ≡ kept_behind f before after
 unfolding kept_behind
 block_left_out f before [] after h = refl
@@ -25,7 +25,7 @@ no_is Yes e = absurd (cc e)
 no_is Spent e = absurd (cc e)
 
 -- where all have the verdict no, what is left has it
-pub left_no : {X : Type 0} (f : List X → Verdict) (before : List (Kept X)) (after : List X) → f (items_of before ++ after) ≡ No → f (items_of (kept_behind f before after)) ≡ No
+pub left_no : {X : Type 0} (f : List X → Verdict) (before : List (KeptItem X)) (after : List X) → f (items_of before ++ after) ≡ No → f (items_of (kept_behind f before after)) ≡ No
 unfolding kept_behind
 left_no f before [] h = ap f (sym (append-nil (items_of before))) ∙ h
 left_no f before (x ∷ after) h = left_no f (before ++ kept_by x (f (items_of before ++ after))) after (by (f (items_of before ++ after)) refl)
@@ -43,10 +43,10 @@ pub record Suffice {X : Type 0} (P : X → Type 0) (f : List X → Verdict) (oth
   pub each : (x : X) → In x all → P x
 
 -- without any one item that stays and is not open, the others and those behind are within a list with the verdict yes
-abbrev AreNeeded : {X : Type 0} → (X → Type 0) → (List X → Verdict) → List (Kept X) → List X → Type 0
-AreNeeded {X = X} P f stay after = (pre post : List (Kept X)) (k : Kept X) → stay ≡ pre ++ k ∷ post → k.unsettled ≡ false → Suffice P f (items_of (pre ++ post) ++ after)
+abbrev AreNeeded : {X : Type 0} → (X → Type 0) → (List X → Verdict) → List (KeptItem X) → List X → Type 0
+AreNeeded {X = X} P f stay after = (pre post : List (KeptItem X)) (k : KeptItem X) → stay ≡ pre ++ k ∷ post → k.unsettled ≡ false → Suffice P f (items_of (pre ++ post) ++ after)
 
-abbrev AreSuch : {X : Type 0} → (X → Type 0) → List (Kept X) → List X → Type 0
+abbrev AreSuch : {X : Type 0} → (X → Type 0) → List (KeptItem X) → List X → Type 0
 AreSuch {X = X} P stay after = (x : X) → In x (items_of stay ++ after) → P x
 
 -- an item of a list with one more behind is that one, or one of the list
@@ -80,13 +80,13 @@ one_less front after x y i = elim (In_append_cases front after y i) [
   | inr b ↦ In_append_right front (x ∷ after) y (there b)
 ]
 
-such_more : {X : Type 0} (P : X → Type 0) (before : List (Kept X)) (x : X) (after : List X) (v : Verdict) → AreSuch P before (x ∷ after) → AreSuch P (before ++ kept_by x v) after
+such_more : {X : Type 0} (P : X → Type 0) (before : List (KeptItem X)) (x : X) (after : List X) (v : Verdict) → AreSuch P before (x ∷ after) → AreSuch P (before ++ kept_by x v) after
 such_more P before x after No such y i = such y (one_less (items_of before) after x y (subst (λ l. In y (items_of l ++ after)) (append-nil before) i))
 such_more P before x after Yes such y i = such y (subst (λ l. In y l) (items_more before x false after) i)
 such_more P before x after Spent such y i = such y (subst (λ l. In y l) (items_more before x true after) i)
 
-module _ {X : Type 0} (P : X → Type 0) (f : List X → Verdict) (before : List (Kept X)) (x : X) (after : List X) (such : AreSuch P before (x ∷ after)) (needs : AreNeeded P f before (x ∷ after)) where
-  behind : (b : Bool) (pre post : List (Kept X)) (k : Kept X) → IsBefore before (kept x b) pre k post → k.unsettled ≡ false → Suffice P f (items_of (pre ++ post) ++ after)
+module _ {X : Type 0} (P : X → Type 0) (f : List X → Verdict) (before : List (KeptItem X)) (x : X) (after : List X) (such : AreSuch P before (x ∷ after)) (needs : AreNeeded P f before (x ∷ after)) where
+  behind : (b : Bool) (pre post : List (KeptItem X)) (k : KeptItem X) → IsBefore before (kept x b) pre k post → k.unsettled ≡ false → Suffice P f (items_of (pre ++ post) ++ after)
   behind b pre post k w u =
       let old : Suffice P f (items_of (pre ++ w.rest) ++ x ∷ after) = needs pre w.rest k w.is u in
       subst (λ l. Suffice P f l)
@@ -109,7 +109,7 @@ module _ {X : Type 0} (P : X → Type 0) (f : List X → Verdict) (before : List
     | inr w ↦ behind true pre post k w u
   ]
 
-needed_left : {X : Type 0} (P : X → Type 0) (f : List X → Verdict) (before : List (Kept X)) (after : List X) → AreSuch P before after → AreNeeded P f before after → AreNeeded P f (kept_behind f before after) []
+needed_left : {X : Type 0} (P : X → Type 0) (f : List X → Verdict) (before : List (KeptItem X)) (after : List X) → AreSuch P before after → AreNeeded P f before after → AreNeeded P f (kept_behind f before after) []
 unfolding kept_behind
 needed_left P f before [] such needs = needs
 needed_left P f before (x ∷ after) such needs =
@@ -121,7 +121,7 @@ nothing_needed P f items [] post k e u = absurd (cc)
 nothing_needed P f items (p ∷ pre) post k e u = absurd (cc)
 
 -- so it is of what is left in the end
-pub kept_needed : {X : Type 0} (P : X → Type 0) (f : List X → Verdict) (items : List X) (pre post : List (Kept X)) (k : Kept X) → ((x : X) → In x items → P x) →
+pub kept_needed : {X : Type 0} (P : X → Type 0) (f : List X → Verdict) (items : List X) (pre post : List (KeptItem X)) (k : KeptItem X) → ((x : X) → In x items → P x) →
     kept_of f items ≡ pre ++ k ∷ post → k.unsettled ≡ false → Suffice P f (items_of (pre ++ post))
 kept_needed P f items pre post k such d u =
     subst (λ l. Suffice P f l) (append-nil (items_of (pre ++ post))) (needed_left P f [] items such (nothing_needed P f items) pre post k d u)
@@ -130,7 +130,7 @@ pub kept_no : {X : Type 0} (f : List X → Verdict) (items : List X) → f items
 kept_no f items h = left_no f [] items h
 
 -- what is left was there
-pub kept_from : {X : Type 0} (f : List X → Verdict) (before : List (Kept X)) (after : List X) (k : Kept X) → In k (kept_behind f before after) → In k before ⊎ In k.item after
+pub kept_from : {X : Type 0} (f : List X → Verdict) (before : List (KeptItem X)) (after : List X) (k : KeptItem X) → In k (kept_behind f before after) → In k before ⊎ In k.item after
 unfolding kept_behind
 kept_from f before [] k i = inl i
 kept_from {X = X} f before (x ∷ after) k i = elim (kept_from f (before ++ kept_by x (f (items_of before ++ after))) after k i) [
@@ -152,7 +152,7 @@ kept_from {X = X} f before (x ∷ after) k i = elim (kept_from f (before ++ kept
     by Yes j = one false j
     by Spent j = one true j
 
-pub kept_all : {X : Type 0} (f : List X → Verdict) (items : List X) (k : Kept X) → In k (kept_of f items) → In k.item items
+pub kept_all : {X : Type 0} (f : List X → Verdict) (items : List X) (k : KeptItem X) → In k (kept_of f items) → In k.item items
 kept_all f items k i = elim (kept_from f [] items k i) [
   | inl a ↦ absurd (In_none a)
   | inr b ↦ b

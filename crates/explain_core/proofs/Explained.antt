@@ -14,9 +14,9 @@ use Rattle.listed.proofs.Lists.{In_map, In_map_cases}
 use Rattle.search_terms.specs.{Laws.{HasNoSolution, Solves}, Tree.{failed_leaves}}
 use Rattle.suite_compare.specs.Asking.{verdict_in, wanted_by}
 use Rattle.suite_compare.proofs.{Deciding.{named_parts, named_within}, SuiteKernels.{suite_sound}}
-use Rattle.explain_core.specs.{Core.{goal_core, marked_goals, marks_of}, Deletion.{Kept, items_of, kept_of}, Explaining.{explained_by, explanation_of}}
+use Rattle.explain_core.specs.{Core.{goal_core, marked_goals, marks_of}, Deletion.{KeptItem, items_of, kept_of}, Explaining.{explained_by, explanation_of}}
 use Rattle.explain_core.specs.{Meaning.{AreReasons, IsCoreOf, MeansExplanation}, Only.{only}, Reach.{reach_of}}
-use Rattle.explain_core.specs.{Reasons.{clashes_of, conflicts_reached, reasons_of, told_pairs, tree_over, verdict_over}, declared.explanation.Mark.{Mark}}
+use Rattle.explain_core.specs.{Reasons.{clashes_of, conflicts_reached, reasons_of, clash_pairs, tree_over, verdict_over}, declared.explanation.Mark.{Mark}}
 use Rattle.explain_core.proofs.{Cores.{core_is, judged}, Deleted.{Suffice, kept_all, kept_needed, kept_no}}
 use Rattle.explain_core.proofs.{Overs.{fewer_pairs, no_from, over_no, over_yes, solved_none}, Reached.{reach_is}}
 use Rattle.explain_core.proofs.{Told.{clashes_back, clashes_items, kept_clash, kept_clashes}, Withins.{within_fit, within_none}}
@@ -44,7 +44,7 @@ module _ (R : Repository) (sound : SoundRepository R) (budget : ℕ) (goals : Li
   all_no : ltb budget (failed_leaves (tree_over R goals all)) ≡ false → g all ≡ verdict.No
   all_no few = no_from budget (tree_over R goals all) few (solved_none R sound all all_fit budget goals needs all_none)
 
-  told_items : (reasons : List (Kept Pair)) → told_pairs (clashes_of reasons) ≡ items_of reasons
+  told_items : (reasons : List (KeptItem Pair)) → clash_pairs (clashes_of reasons) ≡ items_of reasons
   told_items reasons = sym (clashes_items (clashes_of reasons)) ∙ ap items_of (clashes_back reasons)
 
   reasons_are : ltb budget (failed_leaves (tree_over R goals all)) ≡ false → AreReasons R goals (clashes_of (kept_of g all))
@@ -54,9 +54,9 @@ module _ (R : Repository) (sound : SoundRepository R) (budget : ℕ) (goals : Li
     needed = λ before after c d u.
         let cut : kept_of g all ≡ kept_clashes before ++ kept_clash c ∷ kept_clashes after = sym (clashes_back (kept_of g all)) ∙ ap kept_clashes d ∙ map-append kept_clash before (c ∷ after) in
         let w : Suffice FitsIn g (items_of (kept_clashes before ++ kept_clashes after)) = kept_needed FitsIn g all (kept_clashes before) (kept_clashes after) (kept_clash c) all_each cut u in
-        let same : items_of (kept_clashes before ++ kept_clashes after) ≡ told_pairs (before ++ after) = ap items_of (sym (map-append kept_clash before after)) ∙ clashes_items (before ++ after) in
+        let same : items_of (kept_clashes before ++ kept_clashes after) ≡ clash_pairs (before ++ after) = ap items_of (sym (map-append kept_clash before after)) ∙ clashes_items (before ++ after) in
         let found = over_yes R sound w.all (fit_of w.all w.each) budget goals needs w.yes in
-        (found.0, fewer_pairs R w.all (told_pairs (before ++ after)) goals found.0 (λ x i. w.has x (subst (λ l. In x l) (sym same) i)) found.1);
+        (found.0, fewer_pairs R w.all (clash_pairs (before ++ after)) goals found.0 (λ x i. w.has x (subst (λ l. In x l) (sym same) i)) found.1);
   }
     where
       all_each : (x : Pair) → In x all → FitsIn x
@@ -64,7 +64,7 @@ module _ (R : Repository) (sound : SoundRepository R) (budget : ℕ) (goals : Li
 
       kept_fit : (x : Pair) → In x (items_of (kept_of g all)) → FitsIn x
       kept_fit x i =
-          let w = In_map_cases (λ (k : Kept Pair). k.item) (kept_of g all) x i in
+          let w = In_map_cases (λ (k : KeptItem Pair). k.item) (kept_of g all) x i in
           subst FitsIn (sym w.2) (all_each w.0.item (kept_all g all w.0 w.1))
 
   pub reasons_mean : IfSome (option_map clashes_of (reasons_of R budget goals)) (AreReasons R goals)

@@ -5,7 +5,7 @@ use Rattle.std.specs.Prelude.{IfSome}
 use Rattle.clause_solver.specs.declared.outcomes.Verdict.{Verdict as SearchVerdict}
 use Rattle.clause_solver.specs.declared.outcomes.Verdict.TheVariants as tells
 use Rattle.explain_core.specs.{Core.{goal_core, marked_goals, marks_of}, Explaining.{clashes_for, explained_by, explanation_of}}
-use Rattle.explain_core.specs.{Meaning.{AreReasons, MeansExplanation}, Only.{only, pair}, Reasons.{told_pairs}, declared.explanation.Clash.{Clash}}
+use Rattle.explain_core.specs.{Meaning.{AreReasons, MeansExplanation}, Only.{only, pair}, Reasons.{clash_pairs}, declared.explanation.Clash.{Clash}}
 use Rattle.explain_core.specs.{declared.explanation.Mark.{Mark}, declared.explanation.Explanation.{Explanation}}
 use Rattle.explain_core.specs.declared.explanation.Explanation.TheVariants.{Yes, Spent, Core}
 use Rattle.explain_core.specs.OnStanzas.{AreEnough, CoinstButFor, ExplanationsHold, HealthyButFor, HoldsOnStanzas}
@@ -38,7 +38,7 @@ module _ (home : Home) (stanzas : List PackageFacts) where
       | inr b ↦ let w = and_parts (eqb x.low n) (eqb x.high m) b in (subst (Is I) (sym (eqb-true x.low n w.0)) j, subst (Is I) (sym (eqb-true x.high m w.1)) i)
     ]
 
-    to_healthy : HealthyButFor home stanzas clashes I → Healthy (only R (told_pairs clashes)) I
+    to_healthy : HealthyButFor home stanzas clashes I → Healthy (only R (clash_pairs clashes)) I
     to_healthy h = record {
       packages = member_below h.numbers;
       abundance = λ n i c j.
@@ -50,14 +50,14 @@ module _ (home : Home) (stanzas : List PackageFacts) where
             alive = m.member;
           };
       peace = λ m n i j.
-          only_against R (told_pairs clashes) m n (member_below h.numbers m i) (member_below h.numbers n j) ∙ false_from_ne_true (are_paired (told_pairs clashes) m n) (λ t.
-          let a = any_cases (λ (x : Pair). (eqb x.low m && eqb x.high n) || (eqb x.low n && eqb x.high m)) (told_pairs clashes) t in
+          only_against R (clash_pairs clashes) m n (member_below h.numbers m i) (member_below h.numbers n j) ∙ false_from_ne_true (are_paired (clash_pairs clashes) m n) (λ t.
+          let a = any_cases (λ (x : Pair). (eqb x.low m && eqb x.high n) || (eqb x.low n && eqb x.high m)) (clash_pairs clashes) t in
           let both = pair_of m n a.0 a.2 i j in
           let c = In_map_cases (λ (c : Clash). pair c.first c.second) clashes a.0 a.1 in
           h.apart c.0 c.1 (subst (λ x. Is I x.low) c.2 both.0) (subst (λ x. Is I x.high) c.2 both.1));
     }
 
-    from_healthy : Healthy (only R (told_pairs clashes)) I → HealthyButFor home stanzas clashes I
+    from_healthy : Healthy (only R (clash_pairs clashes)) I → HealthyButFor home stanzas clashes I
     from_healthy h =
         let small : Within = λ n i. let l : n < length R.clauses = h.packages n i in omega (arith, l, length_clauses home stanzas) in
         record {
@@ -67,17 +67,17 @@ module _ (home : Home) (stanzas : List PackageFacts) where
               let w = literal_cases home stanzas element hit.by hit.inside in
               let a = any_cases (λ atom. meets atom (stanza_at stanzas hit.by) home) element w.1 in
               record { alternative = a.0; inside = a.1; by = hit.by; member = hit.alive; meeting = a.2 };
-          apart = λ c i a b. both_ways (against (only R (told_pairs clashes)) c.first c.second) (h.peace c.first c.second a b)
-              (only_against R (told_pairs clashes) c.first c.second (h.packages c.first a) (h.packages c.second b) ∙ paired c i);
+          apart = λ c i a b. both_ways (against (only R (clash_pairs clashes)) c.first c.second) (h.peace c.first c.second a b)
+              (only_against R (clash_pairs clashes) c.first c.second (h.packages c.first a) (h.packages c.second b) ∙ paired c i);
         }
       where
-        paired : (c : Clash) → In c clashes → are_paired (told_pairs clashes) c.first c.second ≡ true
-        paired c i = any_from (λ (x : Pair). (eqb x.low c.first && eqb x.high c.second) || (eqb x.low c.second && eqb x.high c.first)) (told_pairs clashes) (pair c.first c.second)
+        paired : (c : Clash) → In c clashes → are_paired (clash_pairs clashes) c.first c.second ≡ true
+        paired c i = any_from (λ (x : Pair). (eqb x.low c.first && eqb x.high c.second) || (eqb x.low c.second && eqb x.high c.first)) (clash_pairs clashes) (pair c.first c.second)
             (In_map (λ (c : Clash). pair c.first c.second) clashes c i)
             (or_left (eqb c.first c.first && eqb c.second c.second) (eqb c.first c.second && eqb c.second c.first) (and_from (eqb c.first c.first) (eqb c.second c.second) (eq-eqb c.first c.first refl) (eq-eqb c.second c.second refl)))
 
   module _ (goals : List Goal) (clashes : List Clash) where
-    to_solves : (w : CoinstButFor home stanzas clashes goals) → Solves (only R (told_pairs clashes)) (wanted_by stanzas goals) w.whole
+    pub to_solves : (w : CoinstButFor home stanzas clashes goals) → Solves (only R (clash_pairs clashes)) (wanted_by stanzas goals) w.whole
     to_solves w = (
       to_healthy clashes w.whole w.healthy,
       (λ c i.
@@ -86,7 +86,7 @@ module _ (home : Home) (stanzas : List PackageFacts) where
           record { by = one.by; inside = subst (In one.by) (sym g.2) (named_from home stanzas g.0 one.by (w.healthy.numbers one.by one.member) one.named); alive = one.member }),
     )
 
-    from_solves : (I : NumSet) → Solves (only R (told_pairs clashes)) (wanted_by stanzas goals) I → CoinstButFor home stanzas clashes goals
+    pub from_solves : (I : NumSet) → Solves (only R (clash_pairs clashes)) (wanted_by stanzas goals) I → CoinstButFor home stanzas clashes goals
     from_solves I s = record {
       whole = I;
       healthy = from_healthy clashes I s.0;

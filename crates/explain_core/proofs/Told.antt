@@ -5,23 +5,23 @@ use Rattle.std.specs.List.{range_with_len}
 use Rattle.repo_model.specs.{Goals.{any_version}, declared.goals.Goal.{Goal}}
 use Rattle.listed.specs.Lists.{here, there}
 use Rattle.row_book.specs.declared.pair.Pair.{Pair}
-use Rattle.explain_core.specs.{Core.{goal_numbered, goals_numbered, marks_of}, Deletion.{Kept, kept, items_of}, Picking.{picked, ArePlacesFrom1}, Only.{pair}}
-use Rattle.explain_core.specs.{Reasons.{clashes_of, told_pairs}, declared.explanation.Clash.{Clash}, declared.explanation.Mark.{Mark}}
+use Rattle.explain_core.specs.{Core.{goal_numbered, goals_numbered, marks_of}, Deletion.{KeptItem, kept, items_of}, Picking.{picked, ArePlacesFrom1}}
+use Rattle.explain_core.specs.{Only.{pair}, Reasons.{clashes_of, clash_pairs}, declared.explanation.Clash.{Clash}, declared.explanation.Mark.{Mark}}
 
 -- the marked goal that was kept
-abbrev pub kept_mark : Mark → Kept ℕ
+abbrev pub kept_mark : Mark → KeptItem ℕ
 kept_mark m = kept m.goal m.unsettled
 
-abbrev pub kept_marks : List Mark → List (Kept ℕ)
+abbrev pub kept_marks : List Mark → List (KeptItem ℕ)
 kept_marks marks = map kept_mark marks
 
-abbrev pub kept_clash : Clash → Kept Pair
+abbrev pub kept_clash : Clash → KeptItem Pair
 kept_clash c = kept (pair c.first c.second) c.unsettled
 
-abbrev pub kept_clashes : List Clash → List (Kept Pair)
+abbrev pub kept_clashes : List Clash → List (KeptItem Pair)
 kept_clashes clashes = map kept_clash clashes
 
-pub marks_back : (core : List (Kept ℕ)) → kept_marks (marks_of core) ≡ core
+pub marks_back : (core : List (KeptItem ℕ)) → kept_marks (marks_of core) ≡ core
 marks_back [] = refl
 marks_back (k ∷ core) = ap (λ l. k ∷ l) (marks_back core)
 
@@ -33,7 +33,7 @@ pub marks_items : (marks : List Mark) → items_of (kept_marks marks) ≡ map (�
 marks_items [] = refl
 marks_items (m ∷ marks) = ap (λ l. m.goal ∷ l) (marks_items marks)
 
-pub clashes_back : (reasons : List (Kept Pair)) → kept_clashes (clashes_of reasons) ≡ reasons
+pub clashes_back : (reasons : List (KeptItem Pair)) → kept_clashes (clashes_of reasons) ≡ reasons
 clashes_back [] = refl
 clashes_back (k ∷ reasons) = ap (λ l. k ∷ l) (clashes_back reasons)
 
@@ -41,7 +41,7 @@ pub clashes_there : (clashes : List Clash) → clashes_of (kept_clashes clashes)
 clashes_there [] = refl
 clashes_there (c ∷ clashes) = ap (λ l. c ∷ l) (clashes_there clashes)
 
-pub clashes_items : (clashes : List Clash) → items_of (kept_clashes clashes) ≡ told_pairs clashes
+pub clashes_items : (clashes : List Clash) → items_of (kept_clashes clashes) ≡ clash_pairs clashes
 clashes_items [] = refl
 clashes_items (c ∷ clashes) = ap (λ l. pair c.first c.second ∷ l) (clashes_items clashes)
 

@@ -4,7 +4,7 @@ use Rattle.clause_solver.specs.declared.outcomes.Verdict.{Verdict}
 use Rattle.relation_fields.specs.{declared.packages.Home.{Home}, declared.packages.PackageFacts.{PackageFacts}}
 use Rattle.repo_model.specs.{Goals.{any_version}, declared.goals.Goal.{Goal}}
 use Rattle.suite_compare.specs.Asking.{verdict_in}
-use Rattle.explain_core.specs.{Deletion.{Kept, kept_of}, declared.explanation.Mark.{Mark}}
+use Rattle.explain_core.specs.{Deletion.{KeptItem, kept_of}, declared.explanation.Mark.{Mark}}
 
 -- the goal of a number, where they are counted from 1
 abbrev pub goal_numbered : List Goal → ℕ → Goal
@@ -18,14 +18,14 @@ abbrev pub verdict_on : ℕ → Bool → Home → List PackageFacts → ℕ → 
 verdict_on limit hold home stanzas budget goals numbers = verdict_in limit hold home stanzas budget (goals_numbered goals numbers)
 
 -- the core: one goal after another is left out, as long as the verdict on the others is no
-abbrev pub goal_core : ℕ → Bool → Home → List PackageFacts → ℕ → List Goal → List (Kept ℕ)
+abbrev pub goal_core : ℕ → Bool → Home → List PackageFacts → ℕ → List Goal → List (KeptItem ℕ)
 goal_core limit hold home stanzas budget goals = kept_of (verdict_on limit hold home stanzas budget goals) (range_with_len 1 (length goals))
 
 -- the core as it is told
-abbrev pub mark : Kept ℕ → Mark
+abbrev pub mark : KeptItem ℕ → Mark
 mark k = record { goal = k.item; unsettled = k.unsettled }
 
-abbrev pub marks_of : List (Kept ℕ) → List Mark
+abbrev pub marks_of : List (KeptItem ℕ) → List Mark
 marks_of core = map mark core
 
 -- the goals that are marked

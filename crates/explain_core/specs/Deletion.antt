@@ -4,19 +4,19 @@ use Rattle.std.specs.Prelude.{Bool, true, false, List, [], ◌∷◌, ◌++◌, 
 use Rattle.clause_solver.specs.{declared.outcomes.Verdict.{Verdict}, declared.outcomes.Verdict.TheVariants.{Yes, No, Spent}}
 
 -- an item that stays, and whether it is open if it has to
-pub record Kept (X : Type 0) : Type 0 where
+pub record KeptItem (X : Type 0) : Type 0 where
   pub item : X
   pub unsettled : Bool
 
-abbrev pub kept : {X : Type 0} → X → Bool → Kept X
+abbrev pub kept : {X : Type 0} → X → Bool → KeptItem X
 kept x unsettled = record { item = x; unsettled = unsettled }
 
-abbrev pub items_of : {X : Type 0} → List (Kept X) → List X
+abbrev pub items_of : {X : Type 0} → List (KeptItem X) → List X
 items_of stay = map (λ k. k.item) stay
 
 -- an item by the verdict on the others: it is left out where that is no, stays where it is yes, and stays and is open where the
 -- search is spent
-abbrev pub kept_by : {X : Type 0} → X → Verdict → List (Kept X)
+abbrev pub kept_by : {X : Type 0} → X → Verdict → List (KeptItem X)
 kept_by x No = []
 kept_by x Yes = kept x false ∷ []
 kept_by x Spent = kept x true ∷ []
@@ -28,10 +28,10 @@ is_no Yes = false
 is_no Spent = false
 
 -- the items are taken in order: the others of an item are those before it that stay and all those behind it
-unfoldable pub kept_behind : {X : Type 0} → (List X → Verdict) → List (Kept X) → List X → List (Kept X)
+unfoldable pub kept_behind : {X : Type 0} → (List X → Verdict) → List (KeptItem X) → List X → List (KeptItem X)
 kept_behind verdict before [] = before
 kept_behind verdict before (x ∷ after) = kept_behind verdict (before ++ kept_by x (verdict (items_of before ++ after))) after
 
 -- what is left when all items have been taken
-abbrev pub kept_of : {X : Type 0} → (List X → Verdict) → List X → List (Kept X)
+abbrev pub kept_of : {X : Type 0} → (List X → Verdict) → List X → List (KeptItem X)
 kept_of verdict items = kept_behind verdict [] items

@@ -29,6 +29,6 @@ abbrev pub explanation_of : ℕ → Bool → Home → List PackageFacts → ℕ 
 explanation_of limit hold home stanzas budget goals = explained_by limit hold home stanzas budget goals (verdict_in limit hold home stanzas budget goals)
 
 -- the fact, where a goal is unknown, and nothing for want of memory
-abbrev pub OnUnknown : (ℕ → Type 0) → ExplainError → Type 0
-OnUnknown P (Unknown goal) = P goal
-OnUnknown P Memory = ⊤
+abbrev pub OnUnknownGoal : (ℕ → Type 0) → ExplainError → Type 0
+OnUnknownGoal P (Unknown goal) = P goal
+OnUnknownGoal P Memory = ⊤

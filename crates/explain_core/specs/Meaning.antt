@@ -5,7 +5,7 @@ use Rattle.repo_model.specs.{Goals.{CoinstGoals}, Repository.{suite_repository},
 use Rattle.row_book.specs.{Repository.{Repository}, Sets.{NumSet}}
 use Rattle.search_terms.specs.Laws.{HasNoSolution, Solves}
 use Rattle.suite_compare.specs.Asking.{wanted_by}
-use Rattle.explain_core.specs.{Core.{marked_goals}, Only.{only}, Reasons.{told_pairs}, declared.explanation.Clash.{Clash}, declared.explanation.Mark.{Mark}}
+use Rattle.explain_core.specs.{Core.{marked_goals}, Only.{only}, Reasons.{clash_pairs}, declared.explanation.Clash.{Clash}, declared.explanation.Mark.{Mark}}
 use Rattle.explain_core.specs.{declared.explanation.Explanation.{Explanation}, declared.explanation.Explanation.TheVariants.{Yes, Spent, Core}}
 
 -- the marked goals are not co-installable, and without any one of them that is not open they are
@@ -15,9 +15,9 @@ pub record IsCoreOf (home : Home) (stanzas : List PackageFacts) (goals : List Go
 
 -- where these pairs alone conflict, no healthy set hits each goal, and without any one of them that is not open some does
 pub record AreReasons (R : Repository) (goals : List (List ℕ)) (clashes : List Clash) : Type 0 where
-  pub enough : HasNoSolution (only R (told_pairs clashes)) goals
+  pub enough : HasNoSolution (only R (clash_pairs clashes)) goals
   pub needed : (before after : List Clash) (c : Clash) → clashes ≡ before ++ c ∷ after → c.unsettled ≡ false →
-      (I : NumSet) × Solves (only R (told_pairs (before ++ after))) goals I
+      (I : NumSet) × Solves (only R (clash_pairs (before ++ after))) goals I
 
 -- what an explanation tells
 abbrev pub MeansExplanation : Home → List PackageFacts → List Goal → Explanation → Type 0

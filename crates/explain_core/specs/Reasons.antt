@@ -4,7 +4,7 @@ use Rattle.clause_solver.specs.{declared.outcomes.Verdict.{Verdict}, declared.ou
 use Rattle.row_book.specs.{Repository.{Repository}, declared.pair.Pair.{Pair}}
 use Rattle.search_terms.specs.Tree.{Tree, failed_leaves}
 use Rattle.suite_compare.specs.Asking.{tree_of, verdict_of}
-use Rattle.explain_core.specs.{Deletion.{Kept, kept_of}, Only.{conflicts_within, only, pair}, Reach.{reach_of}, declared.explanation.Clash.{Clash}}
+use Rattle.explain_core.specs.{Deletion.{KeptItem, kept_of}, Only.{conflicts_within, only, pair}, Reach.{reach_of}, declared.explanation.Clash.{Clash}}
 
 -- the search tree of the goals over packages, where no others conflict than these pairs
 abbrev pub tree_over : Repository → List (List ℕ) → List Pair → Tree
@@ -13,14 +13,14 @@ tree_over R goals pairs = tree_of (only R pairs) goals
 abbrev pub verdict_over : Repository → ℕ → List (List ℕ) → List Pair → Verdict
 verdict_over R budget goals pairs = verdict_of budget (tree_over R goals pairs)
 
-abbrev pub is_spent : Verdict → Bool
-is_spent Spent = true
-is_spent Yes = false
-is_spent No = false
+abbrev pub is_spent_verdict : Verdict → Bool
+is_spent_verdict Spent = true
+is_spent_verdict Yes = false
+is_spent_verdict No = false
 
 -- none, where the search with all of the pairs has more failed leaves than the budget; else one pair after another is left out, as
 -- long as the search with the others finds nothing
-abbrev pub reasons_among : Repository → ℕ → List (List ℕ) → List Pair → Option (List (Kept Pair))
+abbrev pub reasons_among : Repository → ℕ → List (List ℕ) → List Pair → Option (List (KeptItem Pair))
 reasons_among R budget goals pairs =
     if nat_lt budget (failed_leaves (tree_over R goals pairs)) then None else Some (kept_of (verdict_over R budget goals) pairs)
 
@@ -28,16 +28,16 @@ reasons_among R budget goals pairs =
 abbrev pub conflicts_reached : Repository → List (List ℕ) → List Pair
 conflicts_reached R goals = conflicts_within R (reach_of R goals)
 
-abbrev pub reasons_of : Repository → ℕ → List (List ℕ) → Option (List (Kept Pair))
+abbrev pub reasons_of : Repository → ℕ → List (List ℕ) → Option (List (KeptItem Pair))
 reasons_of R budget goals = reasons_among R budget goals (conflicts_reached R goals)
 
 -- a reason as it is told
-abbrev pub clash : Kept Pair → Clash
+abbrev pub clash : KeptItem Pair → Clash
 clash k = record { first = k.item.low; second = k.item.high; unsettled = k.unsettled }
 
-abbrev pub clashes_of : List (Kept Pair) → List Clash
+abbrev pub clashes_of : List (KeptItem Pair) → List Clash
 clashes_of reasons = map clash reasons
 
 -- the pairs that are told
-abbrev pub told_pairs : List Clash → List Pair
-told_pairs clashes = map (λ c. pair c.first c.second) clashes
+abbrev pub clash_pairs : List Clash → List Pair
+clash_pairs clashes = map (λ c. pair c.first c.second) clashes

@@ -2,7 +2,7 @@
 ghost use Rattle.std.specs.Prelude.{◌≡◌, None, Some, IfOk, IfErr, OnOk};
 ghost use Rattle.repo_model.specs.declared.goals.Goal.{Goal};
 ghost use Rattle.suite_compare.specs.{Asking.{images_of, wanted_by}, Answering.{unknown_goal}};
-ghost use Rattle.explain_core.specs.Explaining.{OnUnknown};
+ghost use Rattle.explain_core.specs.Explaining.{OnUnknownGoal};
 
 use crate::explanation::ExplainError;
 use repo_model::Goal;
@@ -18,7 +18,7 @@ pub(crate) fn wanted_by(
 ) -> Result<Needs, ExplainError>
     ensures wanted { IfOk result (λ wanted. wanted ≡ wanted_by view.now.suite.packages goals.now) }
     ensures known { OnOk result (unknown_goal view.now.suite.packages goals.now ≡ None) }
-    ensures unknown { IfErr result (OnUnknown (λ goal. unknown_goal view.now.suite.packages goals.now ≡ Some goal)) }
+    ensures unknown { IfErr result (OnUnknownGoal (λ goal. unknown_goal view.now.suite.packages goals.now ≡ Some goal)) }
 {
     let mut wanted = Needs::new(alloc);
     for (place, goal) in goals.iter().enumerate() {

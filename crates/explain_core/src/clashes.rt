@@ -2,7 +2,7 @@
 ghost use Rattle.std.specs.{Prelude.{◌≡◌, ◌++◌, IfOk, OnOk, length}, Option.{option_map}};
 ghost use Rattle.clause_solver.specs.Outcomes.{IsBudget};
 ghost use Rattle.row_book.specs.{Book.{repository_of, PairsFit}, Lent.{repository_in}, Needs.{NeedsFit}, declared.pair.Pair.{Pair}};
-ghost use Rattle.explain_core.specs.{Deletion.{is_no, kept_by, kept_of}, Reasons.{clashes_of, is_spent, reasons_of, told_pairs, verdict_over}};
+ghost use Rattle.explain_core.specs.{Deletion.{is_no, kept_by, kept_of}, Reasons.{clashes_of, is_spent_verdict, reasons_of, clash_pairs, verdict_over}};
 
 use crate::blocks::{block_behind, count_of, half, is_no, twice};
 use crate::conflicts::conflicts_within;
@@ -15,8 +15,8 @@ use std::alloc::{AllocError, Global};
 use suite_compare::SuiteView;
 
 /// Whether the search was spent.
-fn is_spent(verdict: Verdict) -> bool
-    ensures { result ≡ is_spent verdict }
+fn is_spent_verdict(verdict: Verdict) -> bool
+    ensures { result ≡ is_spent_verdict verdict }
 {
     match verdict {
         Verdict::Spent => true,
@@ -66,7 +66,7 @@ fn clash_at_once(
 
 /// The others of a conflict: those before it that were kept, and all behind it.
 fn others(alloc: Global, clashes: &[Clash], behind: &[Pair]) -> Result<Vec<Pair>, AllocError>
-    ensures { IfOk result (λ made. made.items ≡ told_pairs clashes.now ++ behind.now) }
+    ensures { IfOk result (λ made. made.items ≡ clash_pairs clashes.now ++ behind.now) }
 {
     let mut made = Vec::new(alloc);
     for clash in clashes {
@@ -159,7 +159,7 @@ pub(crate) fn clashes_for(
     let solver = BookSolver::new(alloc, &lent)?;
     let asked = SolvedBook { book: lent, solver };
     let verdict = verdict_over(alloc, &asked, goals, pairs.as_slice(), budget)?;
-    if is_spent(verdict) {
+    if is_spent_verdict(verdict) {
         return Ok(None);
     }
     let clashes = reasons_among(alloc, &asked, goals, pairs.as_slice(), budget)?;

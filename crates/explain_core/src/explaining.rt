@@ -2,7 +2,7 @@
 ghost use Rattle.std.specs.Prelude.{◌≡◌, None, Some, IfOk, IfErr, OnOk};
 ghost use Rattle.clause_solver.specs.Outcomes.{IsBudget};
 ghost use Rattle.suite_compare.specs.Answering.{unknown_goal};
-ghost use Rattle.explain_core.specs.{Explaining.{explanation_of, OnUnknown}, Meaning.{MeansExplanation}};
+ghost use Rattle.explain_core.specs.{Explaining.{explanation_of, OnUnknownGoal}, Meaning.{MeansExplanation}};
 
 use crate::asking::{classes_of, wanted_by};
 use crate::clashes::clashes_for;
@@ -26,7 +26,7 @@ pub fn explain(
     ensures explanation { IfOk result (λ explanation. explanation ≡ explanation_of view.now.limit view.now.kernel.hold view.now.suite.home view.now.suite.packages budget goals.now) }
     ensures meaning { IfOk result (MeansExplanation view.now.suite.home view.now.suite.packages goals.now) }
     ensures known { OnOk result (unknown_goal view.now.suite.packages goals.now ≡ None) }
-    ensures unknown { IfErr result (OnUnknown (λ goal. unknown_goal view.now.suite.packages goals.now ≡ Some goal)) }
+    ensures unknown { IfErr result (OnUnknownGoal (λ goal. unknown_goal view.now.suite.packages goals.now ≡ Some goal)) }
 {
     let wanted = wanted_by(alloc, view, goals)?;
     let classes = classes_of(alloc, view, goals, &wanted)?;

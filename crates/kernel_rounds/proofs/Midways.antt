@@ -20,7 +20,7 @@ use Rattle.listed.proofs.Lists.{In_append_cases, In_cases, In_none}
 use Rattle.class_merge.specs.Classes.{class_in}
 use Rattle.class_merge.proofs.MergedRows.{class_at}
 use Rattle.kernel_rounds.specs.{declared.advancing.Progress.{Progress}, declared.rounding.Reduced.{Reduced}, Moving.{trail_rows, HasSteps}}
-use Rattle.kernel_rounds.specs.Extracting.{HasStepsBefore, IsExtracted, IsMidway, IsReduced, OnRoundLimit, refusal}
+use Rattle.kernel_rounds.specs.Extracting.{IsExtracted, IsMidway, IsReduced, OnRoundLimit, refusal}
 use Rattle.clause_flatten.proofs.TidyFlat.{flat_size}
 use Rattle.kernel_rounds.proofs.{Reached.{kernel_is_lem, repository_test, rounds_sound, same_from}, Classes.{class_within}}
 
@@ -183,6 +183,7 @@ midway_more limit hold R start pool grown old work new now next made s m r f sam
       index = suc i;
       is = same.repository ∙ r.is ∙ ap (round limit hold) m.is ∙ sym (rounds_last limit hold i R);
       sound = same.sound r.sound;
+      first = λ one. absurd (let c = m.counted in omega (arith, a, c, one));
       class_of = classes_next limit hold R s i now.class_of.items made.class_of next.class_of.items m.class_of (r.class_of ∙ ap (λ z. class_list (flat limit hold z)) m.is) g;
       steps = subst (λ told. HasSteps start grown next.steps told) (ap (λ z. steps_after limit hold R i ++ round_steps limit hold z) m.is ∙ sym (steps_last limit hold i R)) d;
       counted = a ∙ ap (λ z. min (z + 1) 4294967295) m.counted ∙ omega arith;
@@ -230,22 +231,6 @@ midway_refused limit hold R start pool work now (faults.Limit gone p count) s m 
     (sym (place_map (class_after limit hold R m.index) (λ k. eqb k p) (packages R)) ∙ ap (place_of (λ k. eqb k p)) (sym m.class_of)))
 midway_refused limit hold R start pool work now faults.Memory s m e = tt
 
--- where a round is refused, the pool has the steps of the rounds before it
-pub midway_gained : (limit : ℕ) (hold : Bool) (R : Repository) (start pool work : Interned) (now : Progress) (fault : FlatError) →
-    IsMidway R limit hold start pool work now → OnLimit (λ passed. passes limit hold (repository_of work now.book) ≡ Some passed) fault →
-    OnRoundLimit (λ _. HasStepsBefore R limit hold start pool) (refusal now.number now.class_of.items fault)
-midway_gained limit hold R start pool work now (faults.Limit gone p count) m e = record {
-  index = m.index;
-  within = m.passed;
-  over = λ none. some_is_none (sym e ∙ ap (passes limit hold) m.is ∙ none);
-  steps = now.steps;
-  gained = m.steps;
-}
-  where
-    some_is_none : {w : Passed} → Some w ≡ None → ⊥
-    some_is_none s = cc
-midway_gained limit hold R start pool work now faults.Memory m e = tt
-
 -- before any round
 pub midway_none : (limit : ℕ) (hold : Bool) (pool : Interned) (book : Book) (now : Progress) → IsSameBook pool book pool now.book → Sound pool book → now.class_of.items ≡ numbers (length book.rows) 0 →
     now.steps ≡ [] → now.number ≡ 1 → IsMidway (repository_of pool book) limit hold pool pool pool now
@@ -253,6 +238,7 @@ midway_none limit hold pool book now same s h none one = record {
   index = 0;
   is = same.repository;
   sound = same.sound s;
+  first = λ _. record { repository = refl; sound = λ own. own };
   class_of = h ∙ ap (λ n. numbers n 0) (sym (book_size pool book)) ∙ sym (same_list (packages (repository_of pool book)));
   steps = subst (λ steps. HasSteps pool pool steps []) (sym none) (record {
     meaning = refl;

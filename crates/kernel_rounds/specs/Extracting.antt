@@ -3,7 +3,7 @@ use Rattle.std.specs.Prelude.{◌≡◌, ◌≢◌, ℕ, suc, ◌<◌, Bool, min
 use Rattle.clause_pool.specs.Interned.{Interned, Kept}
 use Rattle.clause_flatten.specs.declared.error.FlatError.{FlatError}
 use Rattle.clause_flatten.specs.declared.error.FlatError.TheVariants as faults
-use Rattle.row_book.specs.{declared.book.Book.{Book}, declared.trail.Step.{Step}, Book.{repository_of, Sound}, Repository.{Repository}}
+use Rattle.row_book.specs.{declared.book.Book.{Book}, declared.trail.Step.{Step}, Book.{repository_of, IsSameBook, Sound}, Repository.{Repository}}
 use Rattle.row_book.specs.{Flattening.{flat, held_of, packages, passes}, Merging.{class_list, place_of, quotient}, Pruning.{idle_steps}}
 use Rattle.row_book.specs.Rounds.{round, rounds, IdleStep, class_after, steps_after, kernel, kernel_class, kernel_held, kernel_steps, limit_at, PassedRound}
 use Rattle.row_book.specs.Trail.{SoundSteps, trail_meaning}
@@ -20,11 +20,12 @@ pub record IsReduced (limit : ℕ) (hold : Bool) (R : Repository) (pool : Intern
   pub within : passes limit hold R ≡ None
 
 -- after some rounds, each of which changed something and passed no limit: the book is of the pool that the rounds work in, and
--- the steps are of another
+-- the steps are of another, in which the first book has the same ids
 pub record IsMidway (R : Repository) (limit : ℕ) (hold : Bool) (start pool work : Interned) (now : Progress) : Type 0 where
   pub index : ℕ
   pub is : repository_of work now.book ≡ rounds limit hold R index
   pub sound : Sound work now.book
+  pub first : now.number ≡ 1 → IsSameBook work now.book pool now.book
   pub class_of : now.class_of.items ≡ map (class_after limit hold R index) (packages R)
   pub steps : HasSteps start pool now.steps (steps_after limit hold R index)
   pub counted : now.number ≡ min (suc index) 4294967295

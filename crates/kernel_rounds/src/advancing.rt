@@ -1,8 +1,8 @@
 //! From one round to the next.
 ghost use Rattle.std.specs.Prelude.{Bool, ◌≡◌, ◌<◌, IfOk, eqb, length, map, ℕ};
 ghost use Rattle.clause_pool.specs.Interned.{Interned, IsPool, Kept};
-ghost use Rattle.row_book.specs.{Book.{repository_of, Sound}, Merging.{place_of}, Numbers.{numbers}, Repository.{Repository}, Rounds.{round}};
-ghost use Rattle.row_book.specs.Sound.{SoundRepository};
+ghost use Rattle.row_book.specs.{Book.{repository_of, AddsOnly, IsSameBook, Sound}, Merging.{place_of}, Numbers.{numbers}, Repository.{Repository}};
+ghost use Rattle.row_book.specs.{Rounds.{round}, Sound.{SoundRepository}};
 ghost use Rattle.class_merge.specs.Classes.{class_in};
 ghost use Rattle.kernel_rounds.specs.Extracting.{refusal, IsMidway, IsReduced};
 
@@ -103,6 +103,28 @@ pub(crate) fn begin(alloc: Global, book: &Book) -> Result<Progress, AllocError>
     })
 }
 
+/// The book before the round of the number as it stands in the other pool. The first one has the same ids there, and needs no
+/// look for each row; any other comes into that pool.
+fn book_in(
+    alloc: Global,
+    book: &Book,
+    number: u32,
+    from: &Pool,
+    into: &mut Pool,
+) -> Result<Book, AllocError>
+    requires { Sound from.now book.now }
+    ensures same { (number ≡ 1 → IsSameBook from.now book.now into.old book.now) → IfOk result (IsSameBook from.now book.now into.new) }
+    ensures only { IfOk result (λ made. AddsOnly into.old into.new made.rows) }
+    ensures kept { Kept into.old into.new }
+{
+    if number == 1 {
+        let made = book.copy(alloc)?;
+        return Ok(made);
+    }
+    let made = book.carry(alloc, from, into)?;
+    Ok(made)
+}
+
 /// After a round that changed something: its steps come into the other pool, and then the pool that it worked in keeps the
 /// rows of its book alone, so that no later round carries the first repository on.
 pub(crate) fn go_on(
@@ -128,7 +150,7 @@ pub(crate) fn go_on(
         ..
     } = made;
     let classes = compose(alloc, now.class_of.as_slice(), class_of.as_slice())?;
-    let before = now.book.carry(alloc, work, into)?;
+    let before = book_in(alloc, &now.book, now.number, work, into)?;
     let steps = add_round(now.steps, before, class_of, idle)?;
     let (after, _) = keep_live(alloc, work, &book, &[])?;
     Ok(Progress {

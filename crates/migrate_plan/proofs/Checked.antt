@@ -4,7 +4,7 @@ use Rattle.std.specs.Option.{option_or}
 use Rattle.relation_fields.specs.{declared.packages.Home.{Home}, declared.packages.PackageFacts.{PackageFacts}}
 use Rattle.repo_model.specs.{Limits.{most_bytes, most_packages}, declared.suite.Suite.{Suite}}
 use Rattle.suite_compare.specs.Refusals.{home_in, packages_in}
-use Rattle.migrate_plan.specs.{Differing.{differing}, Indexes.{AreMeasured, Texts}, Refusals.{above, homes_refusal, packages_with, plan_refusal, Refuses}}
+use Rattle.migrate_plan.specs.{Differing.{differing}, Indexes.{AreMeasured, Texts}, Refusals.{above, homes_refusal, packages_with, plan_refusal, RefusesPlan}}
 use Rattle.migrate_plan.specs.{declared.lengths.TextLengths.{TextLengths}, declared.refusals.PlanError.{PlanError}}
 use Rattle.migrate_plan.specs.declared.refusals.PlanError.TheVariants.{Names, Packages, TooLong}
 use Rattle.migrate_plan.proofs.{Made.{home_is}, Refusing.{none_both, refuses_behind, refuses_first}}
@@ -39,21 +39,21 @@ module _ (texts : Texts) (old new : Suite) (lengths : TextLengths) (names : List
       ∙ ap₂ (λ m n. refusal_by (home_in first) (home_in second) (packages_in first) (packages_in second) (differing (packages_in first) (packages_in second)) (m + n + 2)) are.old_length_is are.new_length_is
 
   -- each refusal comes where those before it are not there
-  pub by_homes : (error : PlanError) → Refuses error (homes_refusal old.home new.home) → Refuses error (plan_refusal texts.old texts.new)
-  by_homes error h = subst (Refuses error) refusal_is (refuses_first error (homes_refusal old.home new.home) (option_or many (option_or large long)) h)
+  pub by_homes : (error : PlanError) → RefusesPlan error (homes_refusal old.home new.home) → RefusesPlan error (plan_refusal texts.old texts.new)
+  by_homes error h = subst (RefusesPlan error) refusal_is (refuses_first error (homes_refusal old.home new.home) (option_or many (option_or large long)) h)
 
-  pub by_names : (error : PlanError) → homes_refusal old.home new.home ≡ None → Refuses error many → Refuses error (plan_refusal texts.old texts.new)
+  pub by_names : (error : PlanError) → homes_refusal old.home new.home ≡ None → RefusesPlan error many → RefusesPlan error (plan_refusal texts.old texts.new)
   by_names error one h =
-      subst (Refuses error) refusal_is (refuses_behind error (homes_refusal old.home new.home) (option_or many (option_or large long)) one (refuses_first error many (option_or large long) h))
+      subst (RefusesPlan error) refusal_is (refuses_behind error (homes_refusal old.home new.home) (option_or many (option_or large long)) one (refuses_first error many (option_or large long) h))
 
-  pub by_packages : (error : PlanError) → homes_refusal old.home new.home ≡ None → many ≡ None → Refuses error large → Refuses error (plan_refusal texts.old texts.new)
+  pub by_packages : (error : PlanError) → homes_refusal old.home new.home ≡ None → many ≡ None → RefusesPlan error large → RefusesPlan error (plan_refusal texts.old texts.new)
   by_packages error one two h =
-      subst (Refuses error) refusal_is (refuses_behind error (homes_refusal old.home new.home) (option_or many (option_or large long)) one
+      subst (RefusesPlan error) refusal_is (refuses_behind error (homes_refusal old.home new.home) (option_or many (option_or large long)) one
       (refuses_behind error many (option_or large long) two (refuses_first error large long h)))
 
-  pub by_length : (error : PlanError) → homes_refusal old.home new.home ≡ None → many ≡ None → large ≡ None → Refuses error long → Refuses error (plan_refusal texts.old texts.new)
+  pub by_length : (error : PlanError) → homes_refusal old.home new.home ≡ None → many ≡ None → large ≡ None → RefusesPlan error long → RefusesPlan error (plan_refusal texts.old texts.new)
   by_length error one two three h =
-      subst (Refuses error) refusal_is (refuses_behind error (homes_refusal old.home new.home) (option_or many (option_or large long)) one
+      subst (RefusesPlan error) refusal_is (refuses_behind error (homes_refusal old.home new.home) (option_or many (option_or large long)) one
       (refuses_behind error many (option_or large long) two (refuses_behind error large long three h)))
 
   -- and none where none of them is there

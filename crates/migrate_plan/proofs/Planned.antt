@@ -7,14 +7,12 @@ use Rattle.listed.proofs.Lists.{In_append_cases, In_cases, In_none}
 use Rattle.stanza_reader.specs.declared.stanza.RawStanza.{RawStanza}
 use Rattle.repo_model.specs.{Facts.{facts_of}, FirstFault.{first_fault, home_of}}
 use Rattle.suite_compare.specs.{Asking.{verdict_in}, Names.{names_of_both}, Refusals.{home_in, packages_in}, Report.{report}}
-use Rattle.suite_compare.specs.declared.report.ReportLine.{ReportLine}
-use Rattle.suite_compare.proofs.Deciding.{verdict_is_judged}
+use Rattle.suite_compare.specs.{declared.report.ReportLine.{ReportLine}, Indexes.{Judged}, Listing.{ListsExactly, LosesNothing, is_broken}}
+use Rattle.suite_compare.proofs.{Deciding.{verdict_is_judged}, Exact.{report_lists_exactly}, Lost.{empty_list_loses_nothing}}
 use Rattle.migrate_plan.specs.{Differing.{differing}, Mix.{mix}}
 use Rattle.migrate_plan.specs.Plan.{Settings, line_behind, lines_behind, lines_between, outcome_of, passed_in, plan, taken_in, tried_mix}
-use Rattle.migrate_plan.specs.{Promises.{AreRight, IsRight, TakesSafely, planned_name, searched_by}, Trying.{AreTakenBy, LeadsTo}}
+use Rattle.migrate_plan.specs.{Promises.{AreRight, IsRight, TakesSafely, planned_name, searched_by}, Trying.{AreTakenBy, LeadsToPlan}}
 use Rattle.migrate_plan.specs.{declared.plan.PlanLine.{PlanLine}, declared.plan.PlanLine.TheVariants.{Take, LeftLimit, LeftLine}}
-use Rattle.headline.specs.Listing.{ListsExactly, LosesNothing, is_broken}
-use Rattle.headline.proofs.{Exact.{report_lists_exactly}, Lost.{empty_list_loses_nothing}}
 use Rattle.migrate_plan.proofs.{Mixed.{mix_of_none}, Told.{unbroken_same}}
 
 pub outcome_name : (name : List ℕ) (passed : Option PassedRound) (told : List ReportLine) → planned_name (outcome_of name passed told) ≡ name
@@ -113,7 +111,7 @@ none_taken settings old new old_fine new_fine line i =
     (subst (λ stanzas. In line (told stanzas)) same i)
 
 -- what is told of two indexes lists exactly what is broken and what is open
-lines_exact : (settings : Settings) (old new : List ℕ) → ListsExactly (searched_by settings old) (searched_by settings new) (lines_between settings old new)
+lines_exact : (settings : Settings) (old new : List ℕ) → ListsExactly Judged (searched_by settings old) (searched_by settings new) (lines_between settings old new)
 unfolding lines_between
 lines_exact settings old new =
     report_lists_exactly (searched_by settings old) (searched_by settings new)
@@ -125,7 +123,7 @@ lines_exact settings old new =
 nothing_lost : (settings : Settings) (old new : List ℕ) → lines_between settings old new ≡ [] → LosesNothing (searched_by settings old) (searched_by settings new)
 nothing_lost settings old new silent =
     empty_list_loses_nothing (searched_by settings old) (searched_by settings new)
-    (subst (ListsExactly (searched_by settings old) (searched_by settings new)) silent (lines_exact settings old new))
+    (subst (ListsExactly Judged (searched_by settings old) (searched_by settings new)) silent (lines_exact settings old new))
 
 pub plan_safe : (settings : Settings) (old new : List ℕ) → first_fault old ≡ None → first_fault new ≡ None → TakesSafely settings old new (plan settings old new)
 plan_safe settings old new old_fine new_fine =
@@ -164,16 +162,16 @@ taken_more lines more names taken new name next inside own pushed put h = record
     only (LeftLine n told) other i = absurd (In_none i)
 
 module _ (line : List PlanLine → List ℕ → PlanLine) (names : List (List ℕ)) where
-  pub leads_first : (lines : List PlanLine) → lines ≡ [] → LeadsTo line names 0 lines
+  pub leads_first : (lines : List PlanLine) → lines ≡ [] → LeadsToPlan line names 0 lines
   leads_first lines none = ap (λ front. lines_behind line front names) none
 
   pub leads_more : (place : ℕ) (lines more : List PlanLine) (name : List ℕ) (next : PlanLine) → place < length names → name ≡ get_or names place name → next ≡ line lines name → more ≡ lines ++ next ∷ []
-      → LeadsTo line names place lines → LeadsTo line names (place + 1) more
+      → LeadsToPlan line names place lines → LeadsToPlan line names (place + 1) more
   leads_more place lines more name next within is made pushed leads =
       let behind : drop place names ≡ name ∷ drop (place + 1) names = drop_more names place name within ∙ ap (λ n. n ∷ drop (place + 1) names) (sym is) in
       ap (λ front. lines_behind line front (drop (place + 1) names)) (pushed ∙ ap (λ l. lines ++ l ∷ []) made) ∙ ap (lines_behind line lines) (sym behind) ∙ leads
 
-  pub leads_all : (place : ℕ) (lines : List PlanLine) → length names ≤ place → LeadsTo line names place lines → lines ≡ lines_behind line [] names
+  pub leads_all : (place : ℕ) (lines : List PlanLine) → length names ≤ place → LeadsToPlan line names place lines → lines ≡ lines_behind line [] names
   leads_all place lines end leads = sym (ap (lines_behind line lines) (drop_all place names end)) ∙ leads
 
 -- the lines that are made are the plan

@@ -5,11 +5,11 @@ use Rattle.repo_model.specs.Limits.{most_bytes, most_packages}
 use Rattle.relation_fields.specs.declared.packages.Home.{Home}
 use Rattle.suite_compare.specs.Refusals.{home_in, packages_in}
 use Rattle.migrate_plan.specs.Differing.{differing}
-use Rattle.migrate_plan.specs.Refusals.{above, are_apart, bytes_with, homes_refusal, packages_with, plan_refusal, Refuses, UnlessMemory}
+use Rattle.migrate_plan.specs.Refusals.{above, are_apart, bytes_with, homes_refusal, packages_with, plan_refusal, RefusesPlan, UnlessOutOfMemory}
 use Rattle.migrate_plan.specs.{declared.refusals.PlanError.{PlanError}, declared.refusals.PlanError.TheVariants.{Homes, Names, Packages, TooLong, Memory}}
 use Rattle.migrate_plan.proofs.Shifted.{none_parts}
 
-pub for_same : (error : PlanError) {P Q : Type 0} → (P → Q) → UnlessMemory error P → UnlessMemory error Q
+pub for_same : (error : PlanError) {P Q : Type 0} → (P → Q) → UnlessOutOfMemory error P → UnlessOutOfMemory error Q
 for_same Homes step h = step h
 for_same (Names count) step h = step h
 for_same (Packages count) step h = step h
@@ -17,10 +17,10 @@ for_same (TooLong count) step h = step h
 for_same Memory step h = tt
 
 -- a refusal is named where it comes first, and behind one that is not there
-pub refuses_first : (error : PlanError) (there more : Option PlanError) → Refuses error there → Refuses error (option_or there more)
+pub refuses_first : (error : PlanError) (there more : Option PlanError) → RefusesPlan error there → RefusesPlan error (option_or there more)
 refuses_first error there more = for_same error (ap (λ found. option_or found more))
 
-pub refuses_behind : (error : PlanError) (there more : Option PlanError) → there ≡ None → Refuses error more → Refuses error (option_or there more)
+pub refuses_behind : (error : PlanError) (there more : Option PlanError) → there ≡ None → RefusesPlan error more → RefusesPlan error (option_or there more)
 refuses_behind error there more none = for_same error (λ h. ap (λ found. option_or found more) none ∙ h)
 
 pub none_both : (there more : Option PlanError) → there ≡ None → more ≡ None → option_or there more ≡ None

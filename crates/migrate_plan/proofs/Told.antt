@@ -6,7 +6,7 @@ use Rattle.listed.specs.Lists.{In}
 use Rattle.listed.proofs.Lists.{In_append_cases, In_cases, In_none}
 use Rattle.repo_model.specs.{Goals.{any_version}, declared.goals.Goal.{Goal}}
 use Rattle.suite_compare.specs.{Report.{finding, is_yes, pair_line, report, single_line, with_later}, declared.report.ReportLine.{ReportLine}}
-use Rattle.headline.specs.Listing.{is_broken}
+use Rattle.suite_compare.specs.Listing.{is_broken}
 
 -- nothing is broken where the verdicts are the same
 single_same : (name : List ℕ) (v : Verdict) (line : ReportLine) → In line (single_line name (finding v v)) → is_broken line ≡ false

@@ -13,8 +13,8 @@ pub record Settings : Type 0 where
   pub limit : ℕ
   pub hold : Bool
 
-abbrev pub settings_of : ℕ → ℕ → Bool → Settings
-settings_of budget limit hold = record { budget = budget; limit = limit; hold = hold }
+abbrev pub plan_settings : ℕ → ℕ → Bool → Settings
+plan_settings budget limit hold = record { budget = budget; limit = limit; hold = hold }
 
 -- where an index passes the clause limit
 unfoldable pub passed_in : Settings → List ℕ → Option PassedRound

@@ -42,13 +42,13 @@ plan_refusal old new =
     (above most_bytes TooLong (bytes_with old new))))
 
 -- a fact for each refusal, and nothing for want of memory
-abbrev pub UnlessMemory : PlanError → Type 0 → Type 0
-UnlessMemory Homes P = P
-UnlessMemory (Names count) P = P
-UnlessMemory (Packages count) P = P
-UnlessMemory (TooLong count) P = P
-UnlessMemory Memory P = ⊤
+abbrev pub UnlessOutOfMemory : PlanError → Type 0 → Type 0
+UnlessOutOfMemory Homes P = P
+UnlessOutOfMemory (Names count) P = P
+UnlessOutOfMemory (Packages count) P = P
+UnlessOutOfMemory (TooLong count) P = P
+UnlessOutOfMemory Memory P = ⊤
 
 -- a refusal is the one that is there, unless memory ran out
-abbrev pub Refuses : PlanError → Option PlanError → Type 0
-Refuses error there = UnlessMemory error (there ≡ Some error)
+abbrev pub RefusesPlan : PlanError → Option PlanError → Type 0
+RefusesPlan error there = UnlessOutOfMemory error (there ≡ Some error)

@@ -35,8 +35,8 @@ outcome_by settings old_home old home packages name =
     outcome_of name (limit_at settings.limit settings.hold (suite_repository home packages)) (told_of settings old_home old home packages)
 
 -- behind some lines the names that are left lead to the whole plan
-abbrev pub LeadsTo : (List PlanLine → List ℕ → PlanLine) → List (List ℕ) → ℕ → List PlanLine → Type 0
-LeadsTo line names place lines = lines_behind line lines (drop place names) ≡ lines_behind line [] names
+abbrev pub LeadsToPlan : (List PlanLine → List ℕ → PlanLine) → List (List ℕ) → ℕ → List PlanLine → Type 0
+LeadsToPlan line names place lines = lines_behind line lines (drop place names) ≡ lines_behind line [] names
 
 -- the names that some lines take, each of them one of those that differ
 pub record AreTakenBy (lines : List PlanLine) (names taken : List (List ℕ)) : Type 0 where

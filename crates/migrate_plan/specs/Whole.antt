@@ -10,7 +10,7 @@ use Rattle.row_book.specs.{declared.book.Book.{Book}, Flags.{flag}, Parts.{part,
 use Rattle.row_book.specs.Rounds.{PassedRound, kernel, kernel_class, limit_at}
 use Rattle.suite_compare.specs.{Bearers.{bearers_of}, Known.{AreKnownPairs}, Views.{IsBookOf}}
 use Rattle.suite_part.specs.{declared.base.Base.{Base}, BaseRows.{AreBaseRows}, Bases.{IsBase}, Mixes.{AreMixRows}}
-use Rattle.migrate_plan.specs.{Differing.{differing}, Mix.{is_taken}, Indexes.{AreTexts, Texts}, Plan.{settings_of, Settings}, Refusals.{packages_with}}
+use Rattle.migrate_plan.specs.{Differing.{differing}, Mix.{is_taken}, Indexes.{AreTexts, Texts}, Plan.{plan_settings, Settings}, Refusals.{packages_with}}
 use Rattle.migrate_plan.specs.{declared.carried.Carried.{Carried}, declared.kernels.MadeKernel.{MadeKernel}}
 use Rattle.migrate_plan.specs.{declared.kernels.MadeKernel.TheVariants.{Beside, Own}, declared.whole.Whole.{Whole}}
 
@@ -20,7 +20,7 @@ names_between whole = differing whole.old.now.view.now.suite.packages whole.new.
 
 -- at which budget, limit and hold the two are compared
 abbrev pub settings_between : Whole → Settings
-settings_between whole = settings_of whole.old.now.budget whole.old.now.view.now.limit whole.old.now.view.now.kernel.hold
+settings_between whole = plan_settings whole.old.now.budget whole.old.now.view.now.limit whole.old.now.view.now.kernel.hold
 
 -- the texts of the two indexes
 abbrev pub AreTextsOf : Texts → Whole → Type 0

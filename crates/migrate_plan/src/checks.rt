@@ -1,6 +1,6 @@
 //! When no plan is made.
 ghost use Rattle.std.specs.Prelude.{◌≡◌, ◌≤◌, ◌+◌, None, IfErr, IfOk, OnOk, length};
-ghost use Rattle.migrate_plan.specs.Refusals.{above, are_apart, homes_refusal, packages_with, Refuses};
+ghost use Rattle.migrate_plan.specs.Refusals.{above, are_apart, homes_refusal, packages_with, RefusesPlan};
 ghost use Rattle.migrate_plan.specs.declared.refusals.PlanError.TheVariants.{Names, Packages, TooLong};
 ghost use Rattle.repo_model.specs.Limits.{most_bytes, most_packages};
 
@@ -22,7 +22,7 @@ const MOST_BYTES: u64 = 1_073_741_824;
 
 /// Checks that the two do not have different common architectures.
 pub(crate) fn check_homes(old: &Home, new: &Home) -> Result<(), PlanError>
-    ensures refused { IfErr result (λ error. Refuses error (homes_refusal old.now new.now)) }
+    ensures refused { IfErr result (λ error. RefusesPlan error (homes_refusal old.now new.now)) }
     ensures fine { OnOk result (homes_refusal old.now new.now ≡ None) }
 {
     if are_apart(old, new) {
@@ -46,7 +46,7 @@ fn are_apart(old: &Home, new: &Home) -> bool
 
 /// Checks that not too many names differ.
 pub(crate) fn check_names(names: &[Bytes]) -> Result<(), PlanError>
-    ensures refused { IfErr result (λ error. Refuses error (above 256 Names (length names.now))) }
+    ensures refused { IfErr result (λ error. RefusesPlan error (above 256 Names (length names.now))) }
     ensures fine { OnOk result (above 256 Names (length names.now) ≡ None) }
 {
     let count = names.len() as u64;
@@ -63,7 +63,7 @@ pub(crate) fn check_packages(
     new: &Suite,
     names: &[Bytes],
 ) -> Result<(), PlanError>
-    ensures refused { IfErr result (λ error. Refuses error (above most_packages Packages (packages_with old.now.packages new.now.packages names.now))) }
+    ensures refused { IfErr result (λ error. RefusesPlan error (above most_packages Packages (packages_with old.now.packages new.now.packages names.now))) }
     ensures fine { OnOk result (above most_packages Packages (packages_with old.now.packages new.now.packages names.now) ≡ None) }
 {
     let count = packages_with(alloc, old, new, names)?;
@@ -91,7 +91,7 @@ fn packages_with(
 pub(crate) fn check_length(old: u64, new: u64) -> Result<(), PlanError>
     requires old { old ≤ most_bytes }
     requires new { new ≤ most_bytes }
-    ensures refused { IfErr result (λ error. Refuses error (above most_bytes TooLong (old + new + 2))) }
+    ensures refused { IfErr result (λ error. RefusesPlan error (above most_bytes TooLong (old + new + 2))) }
     ensures fine { OnOk result (above most_bytes TooLong (old + new + 2) ≡ None) }
 {
     let count = old + new + 2;

@@ -4,8 +4,8 @@ ghost use Rattle.clause_solver.specs.Outcomes.{IsBudget};
 ghost use Rattle.repo_model.specs.{Feeding.{IsSuiteOf}, Limits.{most_bytes, most_packages}};
 ghost use Rattle.listed.specs.Lists.{In};
 ghost use Rattle.migrate_plan.specs.{Differing.{differing}, Indexes.{AreMeasured, AreTexts, Texts}};
-ghost use Rattle.migrate_plan.specs.Plan.{line_behind, lines_behind, plan, settings_of, taken_in};
-ghost use Rattle.migrate_plan.specs.{Promises.{AreRight, MixesAreIndexes, TakesSafely, planned_name}, Refusals.{Refuses, packages_with, plan_refusal}};
+ghost use Rattle.migrate_plan.specs.Plan.{line_behind, lines_behind, plan, plan_settings, taken_in};
+ghost use Rattle.migrate_plan.specs.{Promises.{AreRight, MixesAreIndexes, TakesSafely, planned_name}, Refusals.{RefusesPlan, packages_with, plan_refusal}};
 ghost use Rattle.migrate_plan.specs.{Whole.{names_between, settings_between, AreTextsOf, IsCarried, IsWhole}, declared.plan.PlanLine.{PlanLine}};
 ghost use Rattle.suite_compare.specs.Refusals.{packages_in};
 
@@ -46,13 +46,13 @@ pub fn make_plan(
     requires new { IsSuiteOf new_bytes.now new.now.packages new.now.home.name }
     requires limit { 0 < limit }
     requires budget { IsBudget budget }
-    ensures refused { IfErr result (λ error. Refuses error (plan_refusal old_bytes.now new_bytes.now)) }
+    ensures refused { IfErr result (λ error. RefusesPlan error (plan_refusal old_bytes.now new_bytes.now)) }
     ensures accepted { OnOk result (plan_refusal old_bytes.now new_bytes.now ≡ None) }
-    ensures plan { IfOk result (λ made. made.lines ≡ plan (settings_of budget limit hold) old_bytes.now new_bytes.now) }
+    ensures plan { IfOk result (λ made. made.lines ≡ plan (plan_settings budget limit hold) old_bytes.now new_bytes.now) }
     ensures mixes { OnOk result (MixesAreIndexes old_bytes.now new_bytes.now) }
     ensures names { IfOk result (λ made. map planned_name made.lines ≡ differing (packages_in old_bytes.now) (packages_in new_bytes.now)) }
-    ensures each { IfOk result (λ made. AreRight (settings_of budget limit hold) old_bytes.now new_bytes.now [] made.lines) }
-    ensures safely { IfOk result (λ made. TakesSafely (settings_of budget limit hold) old_bytes.now new_bytes.now made.lines) }
+    ensures each { IfOk result (λ made. AreRight (plan_settings budget limit hold) old_bytes.now new_bytes.now [] made.lines) }
+    ensures safely { IfOk result (λ made. TakesSafely (plan_settings budget limit hold) old_bytes.now new_bytes.now made.lines) }
 {
     let lengths = lengths_of(old_bytes, new_bytes);
     plan_between(alloc, old, new, lengths, budget)
@@ -83,15 +83,15 @@ pub fn plan_between(
     requires new_short { lengths.new ≤ most_bytes }
     requires limit { 0 < old.now.limit }
     requires budget { IsBudget budget }
-    ensures refused { IfErr result (λ error. (texts : Texts) → AreMeasured texts old.now.suite new.now lengths → Refuses error (plan_refusal texts.old texts.new)) }
+    ensures refused { IfErr result (λ error. (texts : Texts) → AreMeasured texts old.now.suite new.now lengths → RefusesPlan error (plan_refusal texts.old texts.new)) }
     ensures accepted { OnOk result ((texts : Texts) → AreMeasured texts old.now.suite new.now lengths → plan_refusal texts.old texts.new ≡ None) }
-    ensures plan { let settings = settings_of budget old.now.limit old.now.kernel.hold in
+    ensures plan { let settings = plan_settings budget old.now.limit old.now.kernel.hold in
         IfOk result (λ made. (texts : Texts) → AreMeasured texts old.now.suite new.now lengths → made.lines ≡ plan settings texts.old texts.new) }
     ensures mixes { OnOk result ((texts : Texts) → AreMeasured texts old.now.suite new.now lengths → MixesAreIndexes texts.old texts.new) }
     ensures names { IfOk result (λ made. (texts : Texts) → AreMeasured texts old.now.suite new.now lengths → map planned_name made.lines ≡ differing (packages_in texts.old) (packages_in texts.new)) }
-    ensures each { let settings = settings_of budget old.now.limit old.now.kernel.hold in
+    ensures each { let settings = plan_settings budget old.now.limit old.now.kernel.hold in
         IfOk result (λ made. (texts : Texts) → AreMeasured texts old.now.suite new.now lengths → AreRight settings texts.old texts.new [] made.lines) }
-    ensures safely { let settings = settings_of budget old.now.limit old.now.kernel.hold in
+    ensures safely { let settings = plan_settings budget old.now.limit old.now.kernel.hold in
         IfOk result (λ made. (texts : Texts) → AreMeasured texts old.now.suite new.now lengths → TakesSafely settings texts.old texts.new made.lines) }
 {
     check_homes(&old.suite.home, &new.home)?;
@@ -116,7 +116,7 @@ fn lines_of(
     requires few { packages_with old.now.suite.packages new.now.packages names.now ≤ most_packages }
     requires limit { 0 < old.now.limit }
     requires budget { IsBudget budget }
-    ensures { let settings = settings_of budget old.now.limit old.now.kernel.hold in
+    ensures { let settings = plan_settings budget old.now.limit old.now.kernel.hold in
         IfOk result (λ lines. (texts : Texts) → AreTexts texts old.now.suite new.now → lines ≡ lines_behind (line_behind settings texts.old texts.new) [] names.now) }
 {
     let side = OldSide::new(alloc, old, budget)?;
@@ -135,7 +135,7 @@ fn lines_with(
     requires names { names.now ≡ differing old.now.view.now.suite.packages new.now.packages }
     requires few { packages_with old.now.view.now.suite.packages new.now.packages names.now ≤ most_packages }
     requires limit { 0 < old.now.view.now.limit }
-    ensures { let settings = settings_of old.now.budget old.now.view.now.limit old.now.view.now.kernel.hold in
+    ensures { let settings = plan_settings old.now.budget old.now.view.now.limit old.now.view.now.kernel.hold in
         IfOk result (λ lines. (texts : Texts) → AreTexts texts old.now.view.now.suite new.now → lines ≡ lines_behind (line_behind settings texts.old texts.new) [] names.now) }
 {
     let whole = whole_of(alloc, old, new, names)?;

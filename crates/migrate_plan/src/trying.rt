@@ -1,6 +1,6 @@
 //! What becomes of a name, by the mix with it.
 ghost use Rattle.std.specs.Prelude.{◌≡◌, ◌<◌, List, None, IfOk};
-ghost use Rattle.migrate_plan.specs.{Plan.{outcome_of, settings_of}, Trying.{outcome_by, told_of, IsViewAt}};
+ghost use Rattle.migrate_plan.specs.{Plan.{outcome_of, plan_settings}, Trying.{outcome_by, told_of, IsViewAt}};
 ghost use Rattle.suite_compare.specs.{Report.{first_told}, declared.report.ReportLine.{ReportLine}};
 
 use crate::plan::PlanLine;
@@ -18,7 +18,7 @@ pub(crate) fn line_of(
     name: &[u8],
 ) -> Result<PlanLine, AllocError>
     requires limit { 0 < old.now.view.now.limit }
-    ensures { let view = old.now.view.now in let settings = settings_of old.now.budget view.limit view.kernel.hold in IfOk result (λ line. line ≡ outcome_by settings view.suite.home view.suite.packages mix.home mix.packages name.now) }
+    ensures { let view = old.now.view.now in let settings = plan_settings old.now.budget view.limit view.kernel.hold in IfOk result (λ line. line ≡ outcome_by settings view.suite.home view.suite.packages mix.home mix.packages name.now) }
 {
     let made = view_of(alloc, mix, old.view.limit, old.view.kernel.hold)?;
     match made {
@@ -43,7 +43,7 @@ fn line_by_view(
 ) -> Result<PlanLine, AllocError>
     requires limit { view.now.limit ≡ old.now.view.now.limit }
     requires hold { view.now.kernel.hold ≡ old.now.view.now.kernel.hold }
-    ensures { let before = old.now.view.now in let settings = settings_of old.now.budget before.limit before.kernel.hold in IfOk result (λ line. line ≡ outcome_of name.now None (told_of settings before.suite.home before.suite.packages view.now.suite.home view.now.suite.packages)) }
+    ensures { let before = old.now.view.now in let settings = plan_settings old.now.budget before.limit before.kernel.hold in IfOk result (λ line. line ≡ outcome_of name.now None (told_of settings before.suite.home before.suite.packages view.now.suite.home view.now.suite.packages)) }
 {
     let first = first_line(alloc, old, view)?;
     let line = line_by_first(alloc, name, first)?;

@@ -9,7 +9,7 @@ use Rattle.explain_core.specs.declared.explanation.Explanation.TheVariants.{Yes,
 use Rattle.kernel_text.specs.Images.{unknown_goal as unknown_in_kernel}
 use Rattle.kernel_text.specs.{KernelReads.{KernelContent, KernelReads}, declared.fault.KernelFault.{KernelFault}, Serving.{images_in}}
 use Rattle.kernel_text.specs.StoredReading.{stored_reading}
-use Rattle.migrate_plan.specs.{Plan.{Settings, plan, settings_of}, Refusals.{plan_refusal}, declared.refusals.PlanError.{PlanError}}
+use Rattle.migrate_plan.specs.{Plan.{Settings, plan, plan_settings}, Refusals.{plan_refusal}, declared.refusals.PlanError.{PlanError}}
 use Rattle.migrate_plan.specs.declared.refusals.PlanError.TheVariants.{Homes, Names, Packages, TooLong, Memory}
 use Rattle.relation_fields.specs.declared.packages.PackageFacts.{PackageFacts}
 use Rattle.repo_model.specs.{declared.fault.IndexFault.{IndexFault}, declared.goals.Goal.{Goal}}
@@ -22,7 +22,7 @@ use Rattle.coinst_run.specs.{declared.answer.ReportVerdict.TheVariants.{Done, Ne
 use Rattle.coinst_run.specs.{Compare.{compare_answer, newer_course}, Course.{Course, answers, then_on}}
 use Rattle.coinst_run.specs.{Explain.{explain_answer, explained_by_unknown, explanation_answer, goals_explained}, Index.{Index, by_fault, index_in}}
 use Rattle.coinst_run.specs.{Kernel.{kernel_answer}, Migrate.{by_refusal, new_answer, new_course, old_answer, plan_answer, refusal_of}}
-use Rattle.coinst_run.specs.{MigrateText.{plan_text, plan_verdict}, Meaning.{course_of, of_job, outcome_of}, Outcome.{answered, outcome_over}}
+use Rattle.coinst_run.specs.{MigrateText.{plan_text, plan_verdict}, Meaning.{course_of, of_job, outcome_for}, Outcome.{answered, outcome_over}}
 use Rattle.coinst_run.specs.{Query.{by_found, by_tree, by_unknown, goals_answer, installed_text, query_answer, unknown_answer}, QueryText.{undecided_text}}
 use Rattle.coinst_run.specs.Sample.{sample_answer, sample_limit, sample_path, size_report}
 use Rattle.coinst_run.specs.StoredQuery.{by_reading, classes_text, stored_answer, stored_by_unknown, stored_query_answer}
@@ -146,7 +146,7 @@ goes_on files (Status file index budget limit hold) m w =
     (sym (kernel_step files index limit hold (system_course file budget limit hold) w.0 w.2 ∙ file_step files file (system_answer file budget limit hold (index_in w.0)) w.1 w.3))
     (system_goes_on files file budget limit hold (index_in w.0) w.1 w.4)
 goes_on files (Migrate old new budget limit hold) m w =
-    let settings : Settings = settings_of budget limit hold in
+    let settings : Settings = plan_settings budget limit hold in
     let rest : Course = new_course old new settings w.0 in
     subst GivesReport
     (sym (file_step files old (old_answer old new settings) w.0 (w.2).0.file ∙ kernel_at_step files old limit hold w.0 (λ kernel. rest) (w.2).0.accepted (w.2).1
@@ -176,7 +176,7 @@ was files (Status file index budget limit hold) g =
     let w = kernel_used GivesReport some_alone files index limit hold (system_course file budget limit hold) g in
     let v = file_used GivesReport some_alone files file (system_answer file budget limit hold (index_in w.0)) w.2 in (w.0, v.0, w.1, v.1, system_was files file budget limit hold (index_in w.0) v.0 v.2)
 was files (Migrate old new budget limit hold) g =
-    let settings : Settings = settings_of budget limit hold in
+    let settings : Settings = plan_settings budget limit hold in
     let w = file_used GivesReport some_alone files old (old_answer old new settings) g in
     let k = kernel_at_used GivesReport some_alone files old limit hold w.0 (λ kernel. new_course old new settings w.0) w.2 in
     let v = file_used GivesReport some_alone files new (new_answer old new settings w.0) k.2 in
@@ -187,7 +187,7 @@ was files (Sample seed count) g =
     (limit_used GivesReport some_alone files sample_path sample_limit false (sample_text seed count) (λ kernel. answers (reported Done (size_report (packages_in (sample_text seed count)) kernel))) c.1).0
 
 pub complete_jobs_report : CompleteJobsReport
-unfolding outcome_of
+unfolding outcome_for
 complete_jobs_report words files job is limits =
-    let e : outcome_of words files ≡ outcome_over files (course_of job) = ap (λ j. of_job j files) is in
+    let e : outcome_for words files ≡ outcome_over files (course_of job) = ap (λ j. of_job j files) is in
     ((λ g. was files job (subst GivesReport e g)), (λ w. subst GivesReport (sym e) (goes_on files job limits w)))

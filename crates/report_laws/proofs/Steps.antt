@@ -3,7 +3,7 @@ use Rattle.std.proofs.Common.{◌≡◌, ℕ, Bool, cond, List, length, None, re
 use Rattle.byte_flow.specs.Flow.{Files}
 use Rattle.repo_model.specs.FirstFault.{first_fault}
 use Rattle.suite_compare.specs.Refusals.{home_in, packages_in}
-use Rattle.coinst_run.specs.{declared.answer.ReportVerdict.{ReportVerdict}, Answer.{reported}, Present.{HasFile, HasIndex, HasKernel, IsWithin}}
+use Rattle.coinst_run.specs.{declared.answer.ReportVerdict.{ReportVerdict}, Answer.{reported}, Present.{HasFile, HasIndex, HasKernel, IsWithinLimit}}
 use Rattle.coinst_run.specs.{Course.{Course, reads, then_on}, Delivers.{IsStop}, Index.{Index, by_fault, checked_index, index_in, reads_index}}
 use Rattle.coinst_run.specs.{IndexKernel.{ClassedKernel, index_kernel}, Kernel.{by_limit, kernel_of, reads_kernel}, Migrate.{kernel_at, kernel_behind}}
 use Rattle.coinst_run.specs.Outcome.{Outcome, answered, file_limit, outcome_over, over_file, too_long}
@@ -20,7 +20,7 @@ module _ (files : Files) where
       file_step path (λ t. then_on (checked_index path t) next) text h.file ∙ ap (λ f. outcome_over files (then_on (by_fault path text f) next)) h.accepted
 
   -- the kernel of an index, and that of an index that is read
-  pub limit_step : (path : List ℕ) (limit : ℕ) (hold : Bool) (text : List ℕ) (next : ClassedKernel → Course) → IsWithin limit hold text →
+  pub limit_step : (path : List ℕ) (limit : ℕ) (hold : Bool) (text : List ℕ) (next : ClassedKernel → Course) → IsWithinLimit limit hold text →
       outcome_over files (then_on (kernel_of path limit hold (index_in text)) next) ≡ outcome_over files (next (index_kernel limit hold (home_in text) (packages_in text)))
   limit_step path limit hold text next h = ap (λ p. outcome_over files (then_on (by_limit path limit hold (index_in text) p) next)) h
 
@@ -28,7 +28,7 @@ module _ (files : Files) where
       outcome_over files (reads_kernel path limit hold next) ≡ outcome_over files (next (index_in text) (index_kernel limit hold (home_in text) (packages_in text)))
   kernel_step path limit hold next text h = index_step path (λ index. then_on (kernel_of path limit hold index) (next index)) text h.0 ∙ limit_step path limit hold text (next (index_in text)) h.1
 
-  pub kernel_at_step : (path : List ℕ) (limit : ℕ) (hold : Bool) (text : List ℕ) (next : ClassedKernel → Course) → first_fault text ≡ None → IsWithin limit hold text →
+  pub kernel_at_step : (path : List ℕ) (limit : ℕ) (hold : Bool) (text : List ℕ) (next : ClassedKernel → Course) → first_fault text ≡ None → IsWithinLimit limit hold text →
       outcome_over files (then_on (kernel_at path limit hold text) next) ≡ outcome_over files (next (index_kernel limit hold (home_in text) (packages_in text)))
   kernel_at_step path limit hold text next accepted h = ap (λ f. outcome_over files (then_on (kernel_behind path limit hold (by_fault path text f)) next)) accepted ∙ limit_step path limit hold text next h
 

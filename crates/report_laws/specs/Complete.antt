@@ -10,8 +10,8 @@ use Rattle.sample_suite.specs.SampleText.{sample_text}
 use Rattle.status_check.specs.Own.{status_fault}
 use Rattle.suite_compare.specs.{Answering.{unknown_goal}, Refusals.{home_in, packages_in}}
 use Rattle.coinst_words.specs.Jobs.{IsInLimits, job_of}
-use Rattle.coinst_run.specs.{declared.answer.ReportVerdict.{ReportVerdict}, Answer.{reported}, Meaning.{outcome_of}, Outcome.{Outcome, answered}}
-use Rattle.coinst_run.specs.{Sample.{sample_limit}, Present.{HasFile, HasIndex, HasKernel, IsWithin}}
+use Rattle.coinst_run.specs.{declared.answer.ReportVerdict.{ReportVerdict}, Answer.{reported}, Meaning.{outcome_for}, Outcome.{Outcome, answered}}
+use Rattle.coinst_run.specs.{Sample.{sample_limit}, Present.{HasFile, HasIndex, HasKernel, IsWithinLimit}}
 
 -- each goal names a package of the index
 abbrev pub AreKnown : List ℕ → List Goal → Type 0
@@ -29,7 +29,7 @@ IsComplete files (Status file index budget limit hold) =
     (text : List ℕ) × (system : List ℕ) × HasKernel files index limit hold text × HasFile files file system × (status_fault (home_in text) system ≡ None)
 IsComplete files (Migrate old new budget limit hold) =
     (first : List ℕ) × (second : List ℕ) × HasKernel files old limit hold first × HasIndex files new second × (plan_refusal first second ≡ None)
-IsComplete files (Sample seed count) = IsWithin sample_limit false (sample_text seed count)
+IsComplete files (Sample seed count) = IsWithinLimit sample_limit false (sample_text seed count)
 
 -- the outcome is a report
 abbrev pub GivesReport : Outcome → Type 0
@@ -37,4 +37,4 @@ GivesReport outcome = (verdict : ReportVerdict) × (printed : List ℕ) × (outc
 
 -- words that ask for a job are answered by a report exactly where it is complete
 abbrev pub CompleteJobsReport : Type 0
-CompleteJobsReport = (words : List (List ℕ)) (files : Files) (job : Job) → job_of words ≡ Some job → IsInLimits job → (GivesReport (outcome_of words files) ↔ IsComplete files job)
+CompleteJobsReport = (words : List (List ℕ)) (files : Files) (job : Job) → job_of words ≡ Some job → IsInLimits job → (GivesReport (outcome_for words files) ↔ IsComplete files job)

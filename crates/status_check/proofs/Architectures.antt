@@ -16,7 +16,7 @@ use Rattle.repo_model.specs.declared.fault.IndexFault.{IndexFault}
 use Rattle.repo_model.specs.declared.fault.IndexFault.TheVariants.{Stanza, MissingPackage, MissingVersion, BadPackage, BadVersion, BadArchitecture, BadRelation, Duplicate, Mixed, TooMany, Memory}
 use Rattle.repo_model.specs.Limits.{most_packages}
 use Rattle.suite_compare.specs.Refusals.{home_in}
-use Rattle.status_check.specs.{Installed.{is_elsewhere, is_installed, is_of_home, is_own}, Laws.{NoArchitectureFault}, Own.{own_text, status_fault}}
+use Rattle.status_check.specs.{Installed.{is_elsewhere, is_installed, is_of_home, is_own}, Laws.{NoArchitectureFault}, Own.{own_stanzas_text, status_fault}}
 use Rattle.status_check.proofs.{NamedHomes.{IsNamedHome, named_home}, OwnTexts.{all_stanzas, lines_faulty, lines_fine, stanzas_good}}
 
 -- whether a fault is of an architecture
@@ -211,13 +211,13 @@ faults_pass home all n (stanza ∷ more) named own left =
     (subst (λ front. Passes (fault_behind front (Ok stanza))) (sym (take-map good n all)) (behind_passes home (take n all) stanza named (own_take home n all own) left.0))
     (faults_pass home all (n + 1) more named own left.1)
 
-own_readings : (home : Home) (file : List ℕ) (all : List RawStanza) → stanzas file ≡ Ok all → readings (own_text home file) ≡ map good (picked (map (is_own home) all) all)
-unfolding own_text
+own_readings : (home : Home) (file : List ℕ) (all : List RawStanza) → stanzas file ≡ Ok all → readings (own_stanzas_text home file) ≡ map good (picked (map (is_own home) all) all)
+unfolding own_stanzas_text
 own_readings home file all e =
     ap (λ xs. readings (blanked (map (is_own home) xs) file)) (all_stanzas file all e) ∙ readings_picked (map (is_own home) all) file ∙ ap (picked (map (is_own home) all)) (good_readings (readings file) all e)
     ∙ sym (map_picked good (map (is_own home) all) all)
 
-own_passes : (home : Home) (file : List ℕ) (all : List RawStanza) → IsNamedHome home.name → stanzas file ≡ Ok all → Passes (first_fault (own_text home file))
+own_passes : (home : Home) (file : List ℕ) (all : List RawStanza) → IsNamedHome home.name → stanzas file ≡ Ok all → Passes (first_fault (own_stanzas_text home file))
 unfolding first_fault
 own_passes home file all named e =
     subst (λ read. Passes (first_present (faults_from read 0 read))) (sym (own_readings home file all e))
@@ -227,8 +227,8 @@ status_passes : (home : Home) (file : List ℕ) → IsNamedHome home.name → Pa
 status_passes home file named = go (stanzas file) refl
   where
     go : (read : Result (List RawStanza) StanzaFault) → stanzas file ≡ read → Passes (status_fault home file)
-    go (Ok all) e = subst (λ there. Passes (option_or there (first_fault (own_text home file)))) (sym (lines_fine file all e)) (own_passes home file all named e)
-    go (Err fault) e = subst (λ there. Passes (option_or there (first_fault (own_text home file)))) (sym (lines_faulty file fault e)) refl
+    go (Ok all) e = subst (λ there. Passes (option_or there (first_fault (own_stanzas_text home file)))) (sym (lines_fine file all e)) (own_passes home file all named e)
+    go (Err fault) e = subst (λ there. Passes (option_or there (first_fault (own_stanzas_text home file)))) (sym (lines_faulty file fault e)) refl
 
 never : (there : Option IndexFault) (fault : IndexFault) → Passes there → is_of_architecture fault ≡ true → there ≡ Some fault → ⊥
 never there fault passes h e = both_ways (is_of_architecture fault) (subst Passes e passes) h

@@ -13,7 +13,7 @@ use Rattle.row_book.proofs.BookRepositories.{book_size}
 use Rattle.listed.proofs.Lists.{In_at}
 use Rattle.suite_compare.specs.{Asking.{images_of, verdict_in, HasVerdict}, Kinds.{kernel_verdict}, Views.{IsViewOf}}
 use Rattle.suite_compare.proofs.Deciding.{verdict_is_judged}
-use Rattle.status_check.specs.{Report.{all_of, state_of, IsJudged, IsStateOf}, declared.report.OwnState.{OwnState}}
+use Rattle.status_check.specs.{Report.{all_of, state_of, HoldsInIndex, IsStateOf}, declared.report.OwnState.{OwnState}}
 use Rattle.status_check.specs.declared.report.OwnState.TheVariants as own
 use Rattle.status_check.specs.declared.report.SuiteState.{SuiteState}
 
@@ -57,14 +57,14 @@ state_moved home there packages all state moved same is =
     subst (λ xs. IsStateOf (suite_repository there xs) (all_of xs) state) same (subst (λ h. IsStateOf (suite_repository h packages) (all_of packages) state) moved is)
 
 -- a yes and a no are judged on the stanzas
-judged_by : (limit : ℕ) (hold : Bool) (home : Home) (stanzas : List PackageFacts) (budget : ℕ) (goals : List Goal) (v : Verdict) → HasVerdict limit hold home stanzas budget goals v → IsJudged home stanzas goals (state_of budget v)
+judged_by : (limit : ℕ) (hold : Bool) (home : Home) (stanzas : List PackageFacts) (budget : ℕ) (goals : List Goal) (v : Verdict) → HasVerdict limit hold home stanzas budget goals v → HoldsInIndex home stanzas goals (state_of budget v)
 judged_by limit hold home stanzas budget goals Yes h = h.1
 judged_by limit hold home stanzas budget goals No h = h.1
 judged_by limit hold home stanzas budget goals Spent h = tt
 
-pub judged : (limit : ℕ) (hold : Bool) (home : Home) (stanzas : List PackageFacts) (budget : ℕ) (goals : List Goal) (state : SuiteState) → state ≡ state_of budget (verdict_in limit hold home stanzas budget goals) → IsJudged home stanzas goals state
+pub judged : (limit : ℕ) (hold : Bool) (home : Home) (stanzas : List PackageFacts) (budget : ℕ) (goals : List Goal) (state : SuiteState) → state ≡ state_of budget (verdict_in limit hold home stanzas budget goals) → HoldsInIndex home stanzas goals state
 judged limit hold home stanzas budget goals state is =
-    subst (IsJudged home stanzas goals) (sym is) (judged_by limit hold home stanzas budget goals (verdict_in limit hold home stanzas budget goals) (verdict_is_judged limit hold home stanzas budget goals))
+    subst (HoldsInIndex home stanzas goals) (sym is) (judged_by limit hold home stanzas budget goals (verdict_in limit hold home stanzas budget goals) (verdict_is_judged limit hold home stanzas budget goals))
 
 -- the verdict of a view's kernel is that of its suite
 pub verdict_of_view : (pool : Interned) (home : Home) (stanzas : List PackageFacts) (book : Book) (made : Kernel) (limit budget : ℕ) (goals : List Goal) (classes : List (List ℕ)) → IsViewOf pool home stanzas book made limit

@@ -15,16 +15,16 @@ abbrev pub goal_for : PackageFacts → Goal
 goal_for facts = one_version facts.name facts.version
 
 -- the index has a package of the same name and a version that compares as equal
-abbrev pub is_had : List PackageFacts → PackageFacts → Bool
-is_had index facts = not (names_none index (goal_for facts))
+abbrev pub index_has : List PackageFacts → PackageFacts → Bool
+index_has index facts = not (names_none index (goal_for facts))
 
 -- the line of an own package, with its version as the file writes it
 abbrev pub line_for : List PackageFacts → PackageFacts → HaveLine
-line_for index facts = record { name = facts.name; version = facts.version; had = is_had index facts }
+line_for index facts = record { name = facts.name; version = facts.version; had = index_has index facts }
 
 -- the goals of the packages that the index has, in the order of the file
 abbrev pub had_goals : List PackageFacts → List PackageFacts → List Goal
-had_goals index packages = map goal_for (filter (is_had index) packages)
+had_goals index packages = map goal_for (filter (index_has index) packages)
 
 -- the set of all packages
 abbrev pub all_of : List PackageFacts → NumSet
@@ -44,7 +44,7 @@ state_of budget No = suite.No
 state_of budget Spent = suite.Spent (budget + 1)
 
 -- judged on the stanzas of the index: after a yes the goals are co-installable, and after a no they are not
-abbrev pub IsJudged : Home → List PackageFacts → List Goal → SuiteState → Type 0
-IsJudged home stanzas goals suite.Yes = CoinstGoals home stanzas goals
-IsJudged home stanzas goals suite.No = ¬ (CoinstGoals home stanzas goals)
-IsJudged home stanzas goals (suite.Spent failed) = ⊤
+abbrev pub HoldsInIndex : Home → List PackageFacts → List Goal → SuiteState → Type 0
+HoldsInIndex home stanzas goals suite.Yes = CoinstGoals home stanzas goals
+HoldsInIndex home stanzas goals suite.No = ¬ (CoinstGoals home stanzas goals)
+HoldsInIndex home stanzas goals (suite.Spent failed) = ⊤

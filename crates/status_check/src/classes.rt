@@ -5,7 +5,7 @@ ghost use Rattle.repo_model.specs.Goals.{packages_named};
 ghost use Rattle.row_book.specs.{Book.{repository_of}, Needs.{NeedsFit}};
 ghost use Rattle.clause_solver.specs.Outcomes.{IsBudget};
 ghost use Rattle.suite_compare.specs.{Asking.{images_of}, Kinds.{kernel_verdict}};
-ghost use Rattle.status_check.specs.Report.{goal_for, had_goals, is_had, line_for, state_of};
+ghost use Rattle.status_check.specs.Report.{goal_for, had_goals, index_has, line_for, state_of};
 
 use crate::report::{HaveLine, HaveList, SuiteState};
 use clause_solver::{BookSolver, Verdict};
@@ -58,7 +58,7 @@ fn numbers_of(alloc: Global, suite: &Suite, facts: &PackageFacts) -> Result<Vec<
 
 // The line of an own package.
 fn line_of(alloc: Global, facts: &PackageFacts, had: bool) -> Result<HaveLine, AllocError>
-    ensures { (index : List PackageFacts) → had ≡ is_had index facts.now → IfOk result (λ line. line ≡ line_for index facts.now) }
+    ensures { (index : List PackageFacts) → had ≡ index_has index facts.now → IfOk result (λ line. line ≡ line_for index facts.now) }
 {
     let name = Bytes::copy(alloc, facts.name.as_slice())?;
     let version = Bytes::copy(alloc, facts.version.text())?;

@@ -2,7 +2,7 @@
 ghost use Rattle.std.specs.Prelude.{◌≡◌, ◌≤◌, length, None, Ok, IfOk, IfErr, OnOk};
 ghost use Rattle.stanza_reader.specs.Stanzas.{stanzas};
 ghost use Rattle.repo_model.specs.{Refusals.{Refuses}, Limits.{most_bytes}};
-ghost use Rattle.status_check.specs.Own.{foreign_count, lines_fault, own_home, own_packages, status_fault};
+ghost use Rattle.status_check.specs.Own.{foreign_count, file_fault, own_home, own_packages, status_fault};
 
 use crate::installed::sort_stanzas;
 use relation_fields::Home;
@@ -37,7 +37,7 @@ pub(crate) fn read_own(alloc: Global, home: &Home, bytes: &[u8]) -> Result<Own, 
 // The stanzas of the whole file, or the first fault of its lines.
 fn all_stanzas(alloc: Global, bytes: &[u8]) -> Result<StanzaList, IndexFault>
     ensures stanzas { IfOk result (λ all. stanzas bytes.now ≡ Ok all) }
-    ensures refused { IfErr result (λ fault. Refuses fault (lines_fault bytes.now)) }
+    ensures refused { IfErr result (λ fault. Refuses fault (file_fault bytes.now)) }
 {
     match read_stanzas(alloc, bytes) {
         Ok(all) => Ok(all),

@@ -4,7 +4,7 @@ ghost use Rattle.clause_solver.specs.Outcomes.{IsBudget};
 ghost use Rattle.repo_model.specs.{Refusals.{Refuses}, Repository.{suite_repository}, Stanzas.{HealthyStanzas}, Limits.{most_bytes}};
 ghost use Rattle.suite_compare.specs.Asking.{verdict_in};
 ghost use Rattle.status_check.specs.{Own.{foreign_count, own_home, own_packages, status_fault}, declared.report.OwnState.TheVariants.{Healthy}};
-ghost use Rattle.status_check.specs.Report.{all_of, had_goals, line_for, state_of, IsJudged, IsStateOf};
+ghost use Rattle.status_check.specs.Report.{all_of, had_goals, line_for, state_of, HoldsInIndex, IsStateOf};
 
 use crate::classes::{look_up, suite_state};
 use crate::own::read_own;
@@ -38,7 +38,7 @@ pub fn status_report(
     // `Healthy` is said exactly if all own packages are a healthy set, judged on their stanzas.
     ensures healthy { IfOk result (λ report. (report.own ≡ Healthy) ↔ HealthyStanzas (own_home view.now.suite.home bytes.now) (own_packages view.now.suite.home bytes.now) (all_of (own_packages view.now.suite.home bytes.now))) }
     // A yes and a no are true on the stanzas of the index.
-    ensures judged { IfOk result (λ report. IsJudged view.now.suite.home view.now.suite.packages (had_goals view.now.suite.packages (own_packages view.now.suite.home bytes.now)) report.verdict) }
+    ensures judged { IfOk result (λ report. HoldsInIndex view.now.suite.home view.now.suite.packages (had_goals view.now.suite.packages (own_packages view.now.suite.home bytes.now)) report.verdict) }
 {
     let read = read_own(alloc, &view.suite.home, bytes)?;
     let packages = read.suite.packages.as_slice();

@@ -15,3 +15,9 @@ pub mod Paired
 pub mod Installed
 pub mod Unknown
 pub mod Alike
+pub mod Judging
+pub mod Members
+pub mod NamesOfBoth
+pub mod Orders
+pub mod Exact
+pub mod Lost

@@ -33,14 +33,14 @@ rivals_clash R p q i =
 -- and two kinds are judged so
 pub rivals_told : (judge : Judge) (first second : ℕ) → first < length judge.kinds.items → second < length judge.kinds.items → AreRivals judge.kernel.book.now.conflicts (listed_for judge.kinds.items first) (listed_for judge.kinds.items second)
     → No ≡ together_in judge first second
-rivals_told judge first second so l m rivals =
+rivals_told judge first second l m rivals =
     let R : Repository = kernel_in judge in
     let goals : List (List ℕ) = (rivals.one ∷ []) ∷ ((rivals.other ∷ []) ∷ []) in
     let same : listed_for judge.kinds.items first ∷ (listed_for judge.kinds.items second ∷ []) ≡ goals = ap₂ (λ a b. a ∷ (b ∷ [])) rivals.first_is rivals.second_is in
     let fit : NeedsFit (length judge.kernel.book.now.rows) goals = subst (NeedsFit (length judge.kernel.book.now.rows)) same (pair_fits (length judge.kernel.book.now.rows) judge.kinds.items first second l m judge.fit) in
     let clash : Clashes (form R goals) [] = rivals_clash R rivals.one rivals.other (has_In (listed_for judge.kernel.book.now.conflicts rivals.one) rivals.other rivals.against) in
     let leaf : tree_of R goals ≡ failed_leaf = one_tree (length R.clauses) (form R goals) [] failed_leaf (tree_of R goals) clash (tree_is judge.kernel.pool.now judge.kernel.book.now goals judge.kernel.sound fit) in
-    sym (ap (λ g. verdict_of judge.budget (tree_of R g)) same ∙ ap (verdict_of judge.budget) leaf ∙ rw (le-ltb judge.budget 1 (omega (arith, so.allowed.0))) refl)
+    sym (ap (λ g. verdict_of judge.budget (tree_of R g)) same ∙ ap (verdict_of judge.budget) leaf ∙ rw (le-ltb judge.budget 1 (omega (arith, judge.allowed.0))) refl)
 
 -- Two goals of which one is a single class have one tree in both orders: that goal is met at the root, so it is never the
 -- open need that a node takes up.
@@ -95,7 +95,7 @@ tree_swap n a b rest met given (split d left right) is = (
 
 -- so the verdict on two kinds of which one is a single class is that in the other order
 single_swap : (judge : Judge) (first second : ℕ) → first < length judge.kinds.items → second < length judge.kinds.items → IsOneClass (listed_for judge.kinds.items first) → together_in judge first second ≡ together_in judge second first
-single_swap judge first second so l m one =
+single_swap judge first second l m one =
     let R : Repository = kernel_in judge in
     let A : List ℕ = listed_for judge.kinds.items first in
     let B : List ℕ = listed_for judge.kinds.items second in
@@ -114,7 +114,7 @@ one_class (c ∷ (d ∷ rest)) e = absurd (omega (arith, e))
 pub entered_told : (judge : Judge) (lists : List (List Bad)) (first second : ℕ) (v : Verdict) → first < length judge.kinds.items → second < length judge.kinds.items
     → AreAllBadTo judge lists (length lists) → second < length lists → is_yes (alone_in judge first) ≡ true → is_yes (alone_in judge second) ≡ true
     → IsOneClass (listed_for judge.kinds.items first) ⊎ IsOneClass (listed_for judge.kinds.items second) → v ≡ entered_verdict (slice_index_or lists second []) first → v ≡ together_in judge first second
-entered_told judge lists first second v so l m earlier lt first_yes second_yes single entered = entered ∙ told (find (λ b. eqb b.kind first) list) refl ∙ swapped single
+entered_told judge lists first second v l m earlier lt first_yes second_yes single entered = entered ∙ told (find (λ b. eqb b.kind first) list) refl ∙ swapped single
   where
     list : List Bad
     list = slice_index_or lists second []
@@ -129,5 +129,5 @@ entered_told judge lists first second v so l m earlier lt first_yes second_yes s
     ]
 
     swapped : IsOneClass (listed_for judge.kinds.items first) ⊎ IsOneClass (listed_for judge.kinds.items second) → together_in judge second first ≡ together_in judge first second
-    swapped (inl one) = sym (single_swap judge first second so l m one)
-    swapped (inr one) = single_swap judge second first so m l one
+    swapped (inl one) = sym (single_swap judge first second l m one)
+    swapped (inr one) = single_swap judge second first m l one

@@ -10,7 +10,7 @@ use Rattle.suite_compare.specs.{Telling.{no_partners}, declared.new_side.NewSide
 use Rattle.suite_compare.specs.{declared.gather.JointTable.{JointTable}, declared.gather.Partners.{Partners}, declared.report.ReportLine.{ReportLine}}
 use Rattle.suite_compare.specs.{declared.verdicts.Bad.{Bad}, declared.judge.Judge.{Judge}}
 
--- a judge and the verdict on each of its kinds by itself, and for each of n names one of these kinds
+-- for each of n names one of the kinds of a side
 pub record IsSide (n : ℕ) (side : Side) (of : List ℕ) : Type 0 where
   pub long : length of ≡ n
   pub within : (i : ℕ) → i < n → slice_index_or of i 0 < length side.judge.kinds.items

@@ -6,6 +6,9 @@ pub mod Lent
 pub mod Refusals
 pub mod Answering
 pub mod Names
+pub mod Indexes
+pub mod Listing
+pub mod ListingLaws
 pub mod Groups
 pub mod Kinds
 pub mod FirstChoices

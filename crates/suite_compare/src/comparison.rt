@@ -216,7 +216,11 @@ pub fn first_line_by(
 }
 
 /// The first line of what a new side has broken of an old one, or none.
-fn first_beside(alloc: Global, sides: &NewSide, known: Option<KnownPairs>) -> Result<FirstLine, AllocError>
+fn first_beside(
+    alloc: Global,
+    sides: &NewSide,
+    known: Option<KnownPairs>,
+) -> Result<FirstLine, AllocError>
     requires { ForSome known AreKnownPairs }
     ensures first { (v w : List (List ℕ) → Verdict) → AreBothVerdicts sides.now v w → IfOk result (λ made. made.line ≡ first_told (told_report v w sides.now.part.names.items)) }
     ensures known { IfOk result (λ made. ForSome made.known AreKnownPairs) }

@@ -91,5 +91,10 @@ fn is_alike(known: &KnownPairs, judge: &Judge) -> bool
     if !are_same_lists(&known.kinds, &judge.kinds) {
         return false;
     }
-    is_same_book(&known.pool, &known.book, judge.kernel.pool, judge.kernel.book)
+    is_same_book(
+        &known.pool,
+        &known.book,
+        judge.kernel.pool,
+        judge.kernel.book,
+    )
 }

@@ -16,6 +16,7 @@ mod kinds;
 mod known;
 mod laws;
 mod lent;
+mod listing_laws;
 mod new_side;
 mod old_side;
 mod places;
@@ -48,3 +49,7 @@ pub use report::{Finding, LineList, Report, ReportLine};
 
 // Laws.
 pub use laws::{answer_is_verdict, installations_serve, kernel_decides, verdict_is_judged};
+pub use listing_laws::{
+    empty_list_loses_nothing, names_are_theirs, one_list_is_exact, report_lists_exactly,
+    without_open_lines,
+};

@@ -44,9 +44,7 @@ fn verdict_on(alloc: Global, judge: &Judge, goals: &Needs) -> Result<Verdict, Al
     requires { NeedsFit (length judge.now.kernel.book.now.rows) goals.now }
     ensures { IfOk result (λ verdict. verdict ≡ kernel_verdict (kernel_in judge.now) judge.now.budget goals.now) }
 {
-    let verdict = judge
-        .solver
-        .verdict(alloc, goals, judge.budget)?;
+    let verdict = judge.solver.verdict(alloc, goals, judge.budget)?;
     Ok(verdict)
 }
 

@@ -1,5 +1,5 @@
 use Rattle.std.proofs.Common.{◌≡◌, ◌≤◌, filter, length, take}
-use Rattle.headline.specs.Listing.{is_broken}
+use Rattle.suite_compare.specs.Listing.{is_broken}
 use Rattle.coinst_run.proofs.compare_text.count_broken.Given as goal
 
 abbrev pub invariant-loop-line : goal.invariant-loop-line

@@ -1,5 +1,5 @@
 use Rattle.std.proofs.{Common.{◌≤◌, sym, subst}, lemmas.Result.{err_from_is_err_and}}
-use Rattle.migrate_plan.specs.Plan.{settings_of}
+use Rattle.migrate_plan.specs.Plan.{plan_settings}
 use Rattle.repo_model.specs.Limits.{most_bytes}
 use Rattle.coinst_run.specs.{Ending.{ending_of}, Index.{checked_index, index_of}, Migrate.{new_answer, plan_answer}}
 use Rattle.coinst_run.proofs.{Follows.{settled_follows, settled_on, stopped, text_passed}, Migrating.{checked_read}}
@@ -12,7 +12,7 @@ plan_report-report-requires-clause-newer_short g c =
 
 pub returns : goal.returns
 returns g c = λ text suite length_is.
-    let settings = settings_of c.args.budget c.args.view.now.limit c.args.view.now.kernel.hold in
+    let settings = plan_settings c.args.budget c.args.view.now.limit c.args.view.now.kernel.hold in
     let old = c.args.old.now in
     let new = c.args.new.now in
     let read = c.in_ok-newer.ensures.index in
@@ -28,7 +28,7 @@ returns g c = λ text suite length_is.
 -- the newer text has a fault, or no memory was found
 pub returns-in_err-newer : goal.returns-in_err-newer
 returns-in_err-newer g c =
-    let settings = settings_of c.args.budget c.args.view.now.limit c.args.view.now.kernel.hold in
+    let settings = plan_settings c.args.budget c.args.view.now.limit c.args.view.now.kernel.hold in
     let old = c.args.old.now in
     let new = c.args.new.now in
     let p = err_from_is_err_and c.from_residual.result c.from_residual.ensures.1 in rw (p.1, p.2)

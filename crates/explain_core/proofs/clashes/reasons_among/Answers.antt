@@ -2,7 +2,7 @@ use Rattle.std.proofs.Common.{◌≡◌, ◌+◌, ◌∙◌, ℕ, List, [], ap, 
 use Rattle.std.specs.Prelude.{length}
 use Rattle.row_book.specs.{Book.{PairsFit}, Lent.{repository_in}}
 use Rattle.listed.proofs.Lists.{In_at}
-use Rattle.explain_core.specs.{Only.{pair}, Deletion.{kept_behind}, Reasons.{told_pairs, verdict_over}, declared.explanation.Clash.{Clash}}
+use Rattle.explain_core.specs.{Only.{pair}, Deletion.{kept_behind}, Reasons.{clash_pairs, verdict_over}, declared.explanation.Clash.{Clash}}
 use Rattle.explain_core.proofs.{Told.{kept_clashes}, ClashLoop.{clash_block, clash_done, clash_step, others_are, others_fit, told_fit}}
 use Rattle.explain_core.proofs.clashes.reasons_among.Goals as goal
 
@@ -16,7 +16,7 @@ loop-place-init c =
     let none : c.new-clashes.result ≡ [] = c.new-clashes.ensures in
     record {
       left = ap (λ (clashes : List Clash). kept_behind verdict (kept_clashes clashes) c.args.pairs.now) (sym none);
-      fit = subst (λ (clashes : List Clash). PairsFit (told_pairs clashes) (length c.args.asked.now.book.book.now.rows)) (sym none) (none_fit (length c.args.asked.now.book.book.now.rows));
+      fit = subst (λ (clashes : List Clash). PairsFit (clash_pairs clashes) (length c.args.asked.now.book.book.now.rows)) (sym none) (none_fit (length c.args.asked.now.book.book.now.rows));
       some = omega arith;
     }
 

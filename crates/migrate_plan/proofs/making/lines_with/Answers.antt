@@ -1,6 +1,6 @@
 use Rattle.std.proofs.Common.{◌∙◌, ap₂, sym}
 use Rattle.repo_model.specs.declared.suite.Suite.{Suite}
-use Rattle.suite_compare.specs.declared.sides.OldSide.{OldSide}
+use Rattle.suite_compare.specs.declared.old_side.OldSide.{OldSide}
 use Rattle.migrate_plan.specs.Differing.{differing}
 use Rattle.migrate_plan.proofs.making.lines_with.Goals as goal
 

@@ -1,6 +1,6 @@
 use Rattle.std.proofs.{Common.{◌≡◌, ◌∙◌, [], None, ap, map, refl, subst, sym}, lemmas.Result.{err_from_is_err_and}}
 use Rattle.repo_model.specs.Limits.{most_packages}
-use Rattle.migrate_plan.specs.{Differing.{differing}, Indexes.{AreMeasured, Texts}, Plan.{plan, settings_of}, Promises.{AreRight, TakesSafely, planned_name}}
+use Rattle.migrate_plan.specs.{Differing.{differing}, Indexes.{AreMeasured, Texts}, Plan.{plan, plan_settings}, Promises.{AreRight, TakesSafely, planned_name}}
 use Rattle.migrate_plan.specs.{Refusals.{plan_refusal}, declared.refusals.PlanError.TheVariants.{Packages}}
 use Rattle.migrate_plan.proofs.{Checked.{by_homes, by_length, by_names, by_packages, names_are, none_there}, Mixed.{mixes_are_indexes}}
 use Rattle.migrate_plan.proofs.{Planned.{plan_is, plan_names, plan_right, plan_safe}, Refusing.{within_most}, making.plan_between.Goals.{In_ok-lines}}
@@ -38,9 +38,9 @@ free c texts are =
     none_there texts c.args.old.now.suite c.args.new.now c.args.lengths c.as_slice-names.result.now are (c.as_slice-names.ensures ∙ c.in_ok-found.ensures)
     c.in_ok-check_homes.ensures.fine c.in_ok-check_names.ensures.fine c.in_ok-check_packages.ensures.fine c.in_ok-check_length.ensures.fine
 
-made : (c : In_ok-lines) (texts : Texts) → AreMeasured texts c.args.old.now.suite c.args.new.now c.args.lengths → c.in_ok-lines.lines ≡ plan (settings_of c.args.budget c.args.old.now.limit c.args.old.now.kernel.hold) texts.old texts.new
+made : (c : In_ok-lines) (texts : Texts) → AreMeasured texts c.args.old.now.suite c.args.new.now c.args.lengths → c.in_ok-lines.lines ≡ plan (plan_settings c.args.budget c.args.old.now.limit c.args.old.now.kernel.hold) texts.old texts.new
 made c texts are =
-    plan_is (settings_of c.args.budget c.args.old.now.limit c.args.old.now.kernel.hold) texts.old texts.new c.as_slice-names.result.now c.in_ok-lines.lines
+    plan_is (plan_settings c.args.budget c.args.old.now.limit c.args.old.now.kernel.hold) texts.old texts.new c.as_slice-names.result.now c.in_ok-lines.lines
     (names_are texts c.args.old.now.suite c.args.new.now c.args.lengths c.as_slice-names.result.now are (c.as_slice-names.ensures ∙ c.in_ok-found.ensures)) (c.in_ok-lines.ensures texts are.suites)
 
 pub returns-clause-accepted : goal.returns-clause-accepted
@@ -54,15 +54,15 @@ returns-clause-mixes c = λ texts are. mixes_are_indexes texts.old texts.new are
 
 pub returns-clause-names : goal.returns-clause-names
 returns-clause-names c = λ texts are.
-    let settings = settings_of c.args.budget c.args.old.now.limit c.args.old.now.kernel.hold in
+    let settings = plan_settings c.args.budget c.args.old.now.limit c.args.old.now.kernel.hold in
     ap (map planned_name) (made (goal.at.returns-clause-names c).In_ok-lines texts are) ∙ plan_names settings texts.old texts.new
 
 pub returns-clause-each : goal.returns-clause-each
 returns-clause-each c = λ texts are.
-    let settings = settings_of c.args.budget c.args.old.now.limit c.args.old.now.kernel.hold in
+    let settings = plan_settings c.args.budget c.args.old.now.limit c.args.old.now.kernel.hold in
     subst (AreRight settings texts.old texts.new []) (sym (made (goal.at.returns-clause-each c).In_ok-lines texts are)) (plan_right settings texts.old texts.new)
 
 pub returns-clause-safely : goal.returns-clause-safely
 returns-clause-safely c = λ texts are.
-    let settings = settings_of c.args.budget c.args.old.now.limit c.args.old.now.kernel.hold in
+    let settings = plan_settings c.args.budget c.args.old.now.limit c.args.old.now.kernel.hold in
     subst (TakesSafely settings texts.old texts.new) (sym (made (goal.at.returns-clause-safely c).In_ok-lines texts are)) (plan_safe settings texts.old texts.new are.suites.old_is.fine are.suites.new_is.fine)

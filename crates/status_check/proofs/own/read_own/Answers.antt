@@ -2,7 +2,7 @@ use Rattle.std.proofs.{Common.{◌∙◌, Ok, ap, sym}, lemmas.Result.{err_from_
 use Rattle.std.specs.Prelude.{count_by}
 use Rattle.relation_fields.specs.declared.packages.Home.{Home}
 use Rattle.repo_model.proofs.{Refusing.{none_behind, refuses_behind, refuses_first}, Short.{stanzas_short}}
-use Rattle.status_check.specs.{Installed.{is_foreign}, Own.{own_text}}
+use Rattle.status_check.specs.{Installed.{is_foreign}, Own.{own_stanzas_text}}
 use Rattle.status_check.proofs.OwnTexts.{all_stanzas, flags_many, lines_fine, own_stanzas}
 use Rattle.status_check.proofs.own.read_own.Goals as goal
 
@@ -21,25 +21,25 @@ returns-in_err-suite-clause-refused c =
     let p = err_from_is_err_and c.from_residual-in_err-suite.result c.from_residual-in_err-suite.ensures.1 in
     let read = c.in_ok-all.ensures.stanzas ∙ ap Ok (sym c.as_slice-stanzas.ensures) in
     let own = own_stanzas c.args.home.now c.args.bytes.now c.as_slice-stanzas.result.now c.deref.result.now read (c.deref.ensures.value ∙ c.in_ok-sorted.ensures.own) in
-    rw (p.1, p.2) (refuses_behind _ _ _ (lines_fine c.args.bytes.now c.as_slice-stanzas.result.now read) (c.in_err-suite.ensures.refused (own_text c.args.home.now c.args.bytes.now) own))
+    rw (p.1, p.2) (refuses_behind _ _ _ (lines_fine c.args.bytes.now c.as_slice-stanzas.result.now read) (c.in_err-suite.ensures.refused (own_stanzas_text c.args.home.now c.args.bytes.now) own))
 
 pub returns-clause-accepted : goal.returns-clause-accepted
 returns-clause-accepted c =
     let read = c.in_ok-all.ensures.stanzas ∙ ap Ok (sym c.as_slice-stanzas.ensures) in
     let own = own_stanzas c.args.home.now c.args.bytes.now c.as_slice-stanzas.result.now c.deref.result.now read (c.deref.ensures.value ∙ c.in_ok-sorted.ensures.own) in
-    none_behind _ _ (lines_fine c.args.bytes.now c.as_slice-stanzas.result.now read) (c.in_ok-suite.ensures.suite (own_text c.args.home.now c.args.bytes.now) own).fine
+    none_behind _ _ (lines_fine c.args.bytes.now c.as_slice-stanzas.result.now read) (c.in_ok-suite.ensures.suite (own_stanzas_text c.args.home.now c.args.bytes.now) own).fine
 
 pub returns-clause-packages : goal.returns-clause-packages
 returns-clause-packages c =
     let read = c.in_ok-all.ensures.stanzas ∙ ap Ok (sym c.as_slice-stanzas.ensures) in
     let own = own_stanzas c.args.home.now c.args.bytes.now c.as_slice-stanzas.result.now c.deref.result.now read (c.deref.ensures.value ∙ c.in_ok-sorted.ensures.own) in
-    (c.in_ok-suite.ensures.suite (own_text c.args.home.now c.args.bytes.now) own).facts
+    (c.in_ok-suite.ensures.suite (own_stanzas_text c.args.home.now c.args.bytes.now) own).facts
 
 pub returns-clause-home : goal.returns-clause-home
 returns-clause-home c =
     let read = c.in_ok-all.ensures.stanzas ∙ ap Ok (sym c.as_slice-stanzas.ensures) in
     let own = own_stanzas c.args.home.now c.args.bytes.now c.as_slice-stanzas.result.now c.deref.result.now read (c.deref.ensures.value ∙ c.in_ok-sorted.ensures.own) in
-    ap (λ n. let h : Home = record { name = n } in h) (c.in_ok-suite.ensures.suite (own_text c.args.home.now c.args.bytes.now) own).common
+    ap (λ n. let h : Home = record { name = n } in h) (c.in_ok-suite.ensures.suite (own_stanzas_text c.args.home.now c.args.bytes.now) own).common
 
 pub returns-clause-foreign : goal.returns-clause-foreign
 returns-clause-foreign c =

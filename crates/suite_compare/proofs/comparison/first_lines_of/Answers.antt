@@ -15,8 +15,8 @@ returns-then-not-is_empty-clause-lines c = λ v w are.
 pub pairs_of-requires-clause-singles : goal.pairs_of-requires-clause-singles
 pairs_of-requires-clause-singles c = c.deref.ensures.value ∙ c.args.sides.now.side.told
 
-pub put_pair_lines-requires-clause-bad : goal.put_pair_lines-requires-clause-bad
-put_pair_lines-requires-clause-bad c = rw c.deref-2.ensures.value (c.in_ok-pairs.ensures.known.bad c.args.sides.now.side.judge c.in_ok-pairs.ensures.alike)
+pub put_pair_lines-requires : goal.put_pair_lines-requires
+put_pair_lines-requires c = rw c.deref-2.ensures.value (c.in_ok-pairs.ensures.known.bad c.args.sides.now.side.judge c.in_ok-pairs.ensures.alike)
 
 pub returns-clause-lines : goal.returns-clause-lines
 returns-clause-lines c = λ v w are.

@@ -1,32 +1,34 @@
-use Rattle.std.proofs.Common.{◌<◌, ◌∙◌, ap, arith, get_or, length, subst, sym}
+use Rattle.std.proofs.Common.{◌<◌, ◌∙◌, ap, arith, get_or, length, refl, subst, sym}
 use Rattle.listed.{specs.Lists.{In}, proofs.Lists.{In_at}}
 use Rattle.suite_compare.proofs.Paired.{listed_below}
 use Rattle.suite_compare.proofs.gather.joint_table.Goals as goal
 
 pub joints_of-requires : goal.joints_of-requires
-joints_of-requires c = PLACE
+joints_of-requires c = ap length c.deref.ensures.value ∙ c.args.sides.now.old_long ∙ sym (ap length c.deref-2.ensures.value ∙ c.args.sides.now.long)
 
 pub places_by-requires : goal.places_by-requires
 places_by-requires c = λ i l.
-    let lt = c.in_ok-joints.ensures.within i (subst (λ z. i < z) (ap length c.deref-2.ensures.value ∙ c.in_ok-joints.ensures.long) l) in
-    rw c.deref-2.ensures.value (omega (arith, lt, c.len.ensures, c.in_ok-joints.joints.new.ok.0))
+    let lt = c.in_ok-joints.ensures.within i (subst (λ z. i < z) (ap length c.deref-3.ensures.value ∙ c.in_ok-joints.ensures.long) l) in
+    rw c.deref-3.ensures.value (omega (arith, lt, c.len.ensures, c.in_ok-joints.joints.new.ok.0))
 
 pub places_by-requires-2 : goal.places_by-requires-2
 places_by-requires-2 c = λ i l.
-    let j = c.in_ok-joints.ensures.only_new _ (In_at c.in_ok-joints.joints.new.items i 0 (subst (λ z. i < length z) c.deref-3.ensures.value l)) in
-    let lt = listed_below c.args.sides.now.side.of.items _ _ refl c.args.sides.now.side.within _ (subst (λ z. In (get_or c.in_ok-joints.joints.new.items i 0) z) c.deref.ensures.value j) in
-    rw c.deref-3.ensures.value (omega (arith, lt, c.len-2.ensures, c.args.sides.now.side.judge.kinds.ok.0))
+    let side = c.args.sides.now.side in
+    let j = c.in_ok-joints.ensures.only_new _ (In_at c.in_ok-joints.joints.new.items i 0 (subst (λ z. i < length z) c.deref-4.ensures.value l)) in
+    let lt = listed_below side.of.items _ _ refl side.within _ (subst (λ z. In (get_or c.in_ok-joints.joints.new.items i 0) z) c.deref-2.ensures.value j) in
+    rw c.deref-4.ensures.value (omega (arith, lt, c.len-2.ensures, side.judge.kinds.ok.0))
 
 pub returns-clause-joined : goal.returns-clause-joined
-returns-clause-joined c = rw c.deref.ensures.value at c.in_ok-joints.ensures
+returns-clause-joined c = rw (c.deref.ensures.value, c.deref-2.ensures.value) at c.in_ok-joints.ensures
 
 pub returns-clause-fits : goal.returns-clause-fits
 returns-clause-fits c = record {
   same = c.in_ok-joints.ensures.same;
   members_long = omega (arith, c.in_ok-members.ensures.size, c.len.ensures, c.in_ok-joints.joints.new.ok.0);
-  placed = rw c.deref-2.ensures.value at c.in_ok-members.ensures.places;
-  sorted = rw c.deref-3.ensures.value at c.in_ok-by_new.ensures.places;
+  placed = rw c.deref-3.ensures.value at c.in_ok-members.ensures.places;
+  sorted = rw c.deref-4.ensures.value at c.in_ok-by_new.ensures.places;
   news = λ a l.
-      let lt = listed_below c.args.sides.now.side.of.items _ _ refl c.args.sides.now.side.within _ (subst (λ z. In (get_or c.in_ok-joints.joints.new.items a 0) z) c.deref.ensures.value (c.in_ok-joints.ensures.only_new _ (In_at c.in_ok-joints.joints.new.items a 0 l))) in
-      omega (arith, lt, c.in_ok-by_new.ensures.size, c.len-2.ensures, c.args.sides.now.side.judge.kinds.ok.0);
+      let side = c.args.sides.now.side in
+      let lt = listed_below side.of.items _ _ refl side.within _ (subst (λ z. In (get_or c.in_ok-joints.joints.new.items a 0) z) c.deref-2.ensures.value (c.in_ok-joints.ensures.only_new _ (In_at c.in_ok-joints.joints.new.items a 0 l))) in
+      omega (arith, lt, c.in_ok-by_new.ensures.size, c.len-2.ensures, side.judge.kinds.ok.0);
 }

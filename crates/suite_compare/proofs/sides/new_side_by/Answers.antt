@@ -30,6 +30,23 @@ side_by-requires-clause-fit c =
     lists_fit (length c.args.kernel.now.book.now.rows) c.args.classes.items c.deref-5.result.now places (c.deref-4.ensures.value ∙ places_are (goal.at.side_by-requires-clause-fit c).In_ok-places)
     (c.deref-5.ensures.value ∙ c.in_ok-lists.ensures ∙ ap (λ z. map (listed_for z) places) c.deref-3.ensures.value) c.requires.fits.within
 
+pub invariant_of-result : goal.invariant_of-result
+invariant_of-result c =
+    let old = c.args.old.now in
+    let part = c.in_ok-part.part in
+    let places = c.deref-2.result.now in
+    let are = places_are (goal.at.invariant_of-result c).In_ok-places in
+    let count : length part.names.items ≡ length places = ap length c.in_ok-part.ensures.names ∙ length-map places (listed_for old.names) in
+    let among = names_among old.names old.side.of.items places part.names.items part.of.items (places_within c.args.classes.items places (length old.names) (c.deref-2.ensures.value ∙ are) c.requires.count)
+    c.in_ok-part.ensures.names c.in_ok-part.ensures.kinds in
+    let lists : length c.deref-5.result.now ≡ length places =
+    ap length (c.deref-5.ensures.value ∙ c.in_ok-lists.ensures) ∙ length-map c.deref-4.result.now (listed_for c.deref-3.result.now) ∙ ap length (c.deref-4.ensures.value ∙ sym c.deref-2.ensures.value) in
+    record {
+      long = c.in_ok-side.ensures.side_is.long ∙ lists ∙ sym count;
+      old_long = ap length c.in_ok-part.ensures.kinds ∙ length-map places (λ place. get_or old.side.of.items place 0) ∙ sym count;
+      old_within = part_within old.names part.names.items part.of.items old.side among old.long;
+    }
+
 pub returns : goal.returns
 returns c = λ home stanzas is borne.
     let old = c.args.old.now in

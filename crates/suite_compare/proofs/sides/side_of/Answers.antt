@@ -25,7 +25,7 @@ side_by-requires-clause-needs c =
 pub side_by-requires-clause-fit : goal.side_by-requires-clause-fit
 side_by-requires-clause-fit c =
     let view = c.args.view.now in
-    images_fit view.limit view.kernel.hold view.suite.home view.suite.packages _ c.args.names.now c.deref-2.result.now c.kernel_of-kernel.ensures
+    images_fit view.limit view.kernel.hold view.suite.home view.suite.packages c.kernel_of-kernel.result c.args.names.now c.deref-2.result.now c.kernel_of-kernel.ensures
     (c.deref-2.ensures.value ∙ classes_are (goal.at.side_by-requires-clause-fit c).In_ok-classes)
 
 pub returns-clause-long : goal.returns-clause-long

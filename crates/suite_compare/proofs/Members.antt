@@ -7,8 +7,7 @@ use Rattle.listed.specs.Lists.{In, here, there}
 use Rattle.clause_pool.proofs.Order.{before_asym}
 use Rattle.suite_compare.specs.{Report.{pair_line, single_line, with_later}, declared.report.Finding.{Finding}}
 use Rattle.suite_compare.specs.{declared.report.Finding.TheVariants.{Broken, Open}, declared.report.ReportLine.{ReportLine}}
-use Rattle.suite_compare.specs.declared.report.ReportLine.TheVariants.{Broken1, Broken2, Open1, Open2}
-use Rattle.headline.specs.{Indexes.{Name}, Listing.{one, two, subject_of}}
+use Rattle.suite_compare.specs.{declared.report.ReportLine.TheVariants.{Broken1, Broken2, Open1, Open2}, Indexes.{Name}, Listing.{names_of}}
 
 -- the lines of pairs
 pub later_cases : (f : Name → Name → List ReportLine) (names : List Name) → InOrder names → (line : ReportLine) → In line (with_later f names) → (a : Name) × (b : Name) × In a names × In b names × Before a b × In line (f a b)
@@ -36,15 +35,15 @@ later_from f (n ∷ ns) o a b i j l line k =
     ]
 
 -- the lines of a name and of two
-pub single_subject : (n : Name) (f : Option Finding) (line : ReportLine) → In line (single_line n f) → subject_of line ≡ one n
-single_subject n None line i = absurd (In_none i)
-single_subject n (Some Broken) line i = elim (In_cases i) [ inl e ↦ ap subject_of e | inr j ↦ absurd (In_none j) ]
-single_subject n (Some Open) line i = elim (In_cases i) [ inl e ↦ ap subject_of e | inr j ↦ absurd (In_none j) ]
+pub single_names : (n : Name) (f : Option Finding) (line : ReportLine) → In line (single_line n f) → names_of line ≡ n ∷ []
+single_names n None line i = absurd (In_none i)
+single_names n (Some Broken) line i = elim (In_cases i) [ inl e ↦ ap names_of e | inr j ↦ absurd (In_none j) ]
+single_names n (Some Open) line i = elim (In_cases i) [ inl e ↦ ap names_of e | inr j ↦ absurd (In_none j) ]
 
-pub pair_subject : (a b : Name) (f : Option Finding) (line : ReportLine) → In line (pair_line a b f) → subject_of line ≡ two a b
-pair_subject a b None line i = absurd (In_none i)
-pair_subject a b (Some Broken) line i = elim (In_cases i) [ inl e ↦ ap subject_of e | inr j ↦ absurd (In_none j) ]
-pair_subject a b (Some Open) line i = elim (In_cases i) [ inl e ↦ ap subject_of e | inr j ↦ absurd (In_none j) ]
+pub pair_names : (a b : Name) (f : Option Finding) (line : ReportLine) → In line (pair_line a b f) → names_of line ≡ a ∷ (b ∷ [])
+pair_names a b None line i = absurd (In_none i)
+pair_names a b (Some Broken) line i = elim (In_cases i) [ inl e ↦ ap names_of e | inr j ↦ absurd (In_none j) ]
+pair_names a b (Some Open) line i = elim (In_cases i) [ inl e ↦ ap names_of e | inr j ↦ absurd (In_none j) ]
 
 pub single_broken : (n name : Name) (f : Option Finding) → In (Broken1 name) (single_line n f) → f ≡ Some Broken
 single_broken n name None i = absurd (In_none i)
@@ -66,15 +65,15 @@ pair_open a b first second None i = absurd (In_none i)
 pair_open a b first second (Some Broken) i = elim (In_cases i) [ inl e ↦ absurd (let k : ⊥ = cc in k) | inr j ↦ absurd (In_none j) ]
 pair_open a b first second (Some Open) i = refl
 
--- subjects are of the same names
-pub same_one : (a b : Name) → one a ≡ one b → a ≡ b
+-- equal lists of names
+pub same_one : (a b : Name) → a ∷ [] ≡ b ∷ [] → a ≡ b
 same_one a b e = cc
 
-pub same_first : (a b c d : Name) → two a b ≡ two c d → a ≡ c
+pub same_first : (a b c d : Name) → a ∷ (b ∷ []) ≡ c ∷ (d ∷ []) → a ≡ c
 same_first a b c d e = cc
 
-pub same_second : (a b c d : Name) → two a b ≡ two c d → b ≡ d
+pub same_second : (a b c d : Name) → a ∷ (b ∷ []) ≡ c ∷ (d ∷ []) → b ≡ d
 same_second a b c d e = cc
 
-pub not_both : (a b c : Name) → one a ≡ two b c → ⊥
+pub not_both : (a b c : Name) → a ∷ [] ≡ b ∷ (c ∷ []) → ⊥
 not_both a b c e = cc

@@ -1,13 +1,14 @@
 -- The tree of a family: what it tells of tests, and how its numbers rise.
-use Rattle.std.proofs.Common.{◌≡◌, ℕ, ◌<◌, ◌≤◌, ◌⊎◌, Bool, true, false, ◌&&◌, ◌||◌, eqb, ltb, cond, List, [], ◌∷◌, inl, inr, refl, sym, ◌∙◌, ap, ap₂, subst, length, arith, eqb-true, suc, ◌+◌, not, add-one, drop, drop-cons, get_or}
-use Rattle.std.proofs.lemmas.Bool.{cond-false, cond-true, eqb-false, le-ltb, not_from_false, not_from_true}
+use Rattle.std.proofs.Common.{◌≡◌, ℕ, ◌<◌, ◌≤◌, ◌⊎◌, Bool, true, false, ◌&&◌, ◌||◌, eqb, ltb, cond, List, [], ◌∷◌, inl, inr, refl, sym, ◌∙◌, ap, ap₂, subst, length, arith, eqb-true, suc, ◌+◌, not, add-one, drop, drop-cons, get_or, lt-ltb}
+use Rattle.std.proofs.lemmas.Bool.{cond-false, cond-true, eqb-false, false_from_ne_true, le-ltb, not_from_false, not_from_true}
 use Rattle.std.specs.List.{list_any}
 use Rattle.listed.specs.Lists.{In, has, here, there, is_inside, Ascending}
 use Rattle.listed.proofs.Lists.{In_none}
 use Rattle.clause_pool.specs.{Lists.{Before, InOrder}, Clauses.{apart_from}}
 use Rattle.clause_families.specs.Branches.{any_of, bare, branch, first_leap, is_empty, later_leaps, no_leap, nodes_of, tree_of, with_clause, Above, BuiltOf, Climbs, Grows, Leap, Standing, Tree, TreeOf}
-use Rattle.clause_families.specs.{Inclusion.{has_shorter, is_within}, declared.family_tree.FamilyTree.{FamilyTree}}
-use Rattle.clause_families.proofs.Walked.{above_less}
+use Rattle.clause_families.specs.{Inclusion.{has_shorter, is_within, some_inside}, declared.family_tree.FamilyTree.{FamilyTree}}
+use Rattle.clause_pool.proofs.Clauses.{inside_at}
+use Rattle.clause_families.proofs.{Families.{inside_length}, Walked.{above_less}}
 
 once_again : (e t z : Bool) → (t || ((e && t) || z)) ≡ (t || z)
 once_again e true z = refl
@@ -169,6 +170,48 @@ shorter_built built family clause t =
     (ap₂ (λ x y. x && y) (sym t.by.empty) (last (ltb 0 (length clause))))
   where
     last : (b : Bool) → (b && true) ≡ b
+    last true = refl
+    last false = refl
+
+-- a clause within another one is no longer
+inside_as_within : (clause : List ℕ) (family : List (List ℕ)) → Ascending clause → ((c : List ℕ) → In c family → Ascending c) →
+    some_inside family clause ≡ list_any (is_within clause (length clause + 1)) family
+inside_as_within clause [] up rise = refl
+inside_as_within clause (d ∷ ds) up rise =
+    ap₂ (λ x y. x || y)
+    (both (ltb (length d) (length clause + 1)) (is_inside d clause)
+    (λ h. let l : length d ≤ length clause = inside_length d clause (rise d here) up (inside_at d clause h) in lt-ltb (length d) (length clause + 1) (omega arith)))
+    (inside_as_within clause ds up (λ c i. rise c (there i)))
+  where
+    both : (x y : Bool) → (y ≡ true → x ≡ true) → y ≡ (x && y)
+    both true y f = refl
+    both false true f = sym (f refl)
+    both false false f = refl
+
+-- no clause as long as each of the family has one of it inside, if it is shorter
+none_within : (bound : ℕ) (family : List (List ℕ)) (clause : List ℕ) → Ascending clause → ((c : List ℕ) → In c family → Ascending c) → ((c : List ℕ) → In c family → bound ≤ length c) → length clause < bound →
+    some_inside family clause ≡ false
+none_within bound [] clause up rise h low = refl
+none_within bound (c ∷ cs) clause up rise h low =
+    ap₂ (λ x y. x || y)
+    (false_from_ne_true (is_inside c clause) (λ k.
+    let l : length c ≤ length clause = inside_length c clause (rise c here) up (inside_at c clause k) in
+    let m : bound ≤ length c = h c here in
+    omega arith))
+    (none_within bound cs clause up (λ d i. rise d (there i)) (λ d i. h d (there i)) low)
+
+pub none_so_short : (built : FamilyTree) (family : List (List ℕ)) (clause : List ℕ) → TreeOf built family → Ascending clause → length clause < built.shortest → some_inside family clause ≡ false
+none_so_short built family clause t up low = none_within built.shortest family clause up t.rising t.by.short low
+
+pub inside_built : (built : FamilyTree) (family : List (List ℕ)) (clause : List ℕ) (t : TreeOf built family) → Ascending clause →
+    some_inside family clause ≡ (built.holds_empty || any_of (is_within clause (length clause + 1)) (tree_of t.by.leaps family))
+inside_built built family clause t up =
+    inside_as_within clause family up t.rising
+    ∙ any_built (is_within clause (length clause + 1)) t.by.leaps family
+    ∙ ap (λ b. b || any_of (is_within clause (length clause + 1)) (tree_of t.by.leaps family))
+    (ap₂ (λ x y. x && (y && true)) (sym t.by.empty) (lt-ltb 0 (length clause + 1) (omega arith)) ∙ last built.holds_empty)
+  where
+    last : (b : Bool) → (b && (true && true)) ≡ b
     last true = refl
     last false = refl
 

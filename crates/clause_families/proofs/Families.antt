@@ -202,7 +202,7 @@ single_inside others numbers f c h =
 
 -- Minimal clauses, put into the pool one by one.
 
-inside_length : (S T : List ℕ) → Ascending S → Ascending T → Inside S T → length S ≤ length T
+pub inside_length : (S T : List ℕ) → Ascending S → Ascending T → Inside S T → length S ≤ length T
 inside_length [] T a b f = zero-le
 inside_length (s ∷ ss) [] a b f = absurd (In_none (f s here))
 inside_length (s ∷ ss) (t ∷ ts) a b f =

@@ -10,4 +10,6 @@ pub mod Gainings
 pub mod Merged
 pub mod Rewritten
 pub mod UnionRows
+pub mod Counted
+pub mod CountedRows
 pub mod Sifted

@@ -12,15 +12,15 @@ use Rattle.clause_families.specs.Families.{IncludesOneOf, SameClauses, Useful, a
 use Rattle.clause_families.proofs.Unions.{Comes, dropped_parts, joined_ascending, joined_cases, joined_right, replaced_cases, replaced_joined, replaced_kept}
 
 -- a union of a clause that holds the number
-record Union (spent : ℕ) (A U : List (List ℕ)) (c : List ℕ) : Type 0 where
-  from : List ℕ
-  one : In from A
-  holds : In spent from
-  other : List ℕ
-  with : In other U
-  is : c ≡ union_of (clause_without spent from) other
+pub record Union (spent : ℕ) (A U : List (List ℕ)) (c : List ℕ) : Type 0 where
+  pub from : List ℕ
+  pub one : In from A
+  pub holds : In spent from
+  pub other : List ℕ
+  pub with : In other U
+  pub is : c ≡ union_of (clause_without spent from) other
 
-unions_cases : (spent : ℕ) (A U : List (List ℕ)) (c : List ℕ) → In c (all_unions spent A U) → Union spent A U c
+pub unions_cases : (spent : ℕ) (A U : List (List ℕ)) (c : List ℕ) → In c (all_unions spent A U) → Union spent A U c
 unions_cases spent [] U c i = absurd (In_none i)
 unions_cases spent (T ∷ A) U c i =
     elim (In_append_cases (cond (has T spent) (unions_of spent U T) []) (all_unions spent A U) c i) [
@@ -35,7 +35,7 @@ unions_cases spent (T ∷ A) U c i =
         record { from = T; one = here; holds = has_In T spent e; other = w.0; with = w.1; is = w.2 }
     pick false e j = absurd (In_none j)
 
-unions_from : (spent : ℕ) (A U : List (List ℕ)) (T other : List ℕ) → In T A → In spent T → In other U → In (union_of (clause_without spent T) other) (all_unions spent A U)
+pub unions_from : (spent : ℕ) (A U : List (List ℕ)) (T other : List ℕ) → In T A → In spent T → In other U → In (union_of (clause_without spent T) other) (all_unions spent A U)
 unions_from spent [] U T other i h j = absurd (In_none i)
 unions_from spent (S ∷ A) U T other i h j =
     elim (In_cases i) [

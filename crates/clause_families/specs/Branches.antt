@@ -1,11 +1,11 @@
--- Families of clauses as trees: clauses that begin alike share the branches up to there.
+-- Families of clauses as trees: clauses that begin alike share branches.
 use Rattle.std.specs.Prelude.{◌≡◌, ℕ, zero, suc, ◌<◌, ◌≤◌, ◌+◌, ◌-◌, Bool, true, false, ◌&&◌, ◌||◌, eqb, cond, List, [], ◌∷◌, ◌++◌, length, get_or}
 use Rattle.std.specs.List.{list_any}
 use Rattle.listed.specs.Lists.{In, Ascending}
 use Rattle.clause_pool.specs.Lists.{InOrder}
 use Rattle.clause_families.specs.{declared.family_tree.FamilyTree.{FamilyTree}, declared.family_tree.Node.{Node}}
 
--- over how many of those that stand beside it a branch leaps to another one, and the rank of that leap
+-- how many siblings a branch leaps over, and the rank of that leap
 pub record Leap : Type 0 where
   pub over : ℕ
   pub rank : ℕ
@@ -13,7 +13,8 @@ pub record Leap : Type 0 where
 abbrev pub no_leap : Leap
 no_leap = record { over = 0; rank = 0 }
 
--- a number, its leap, whether a clause ends with it, what goes on behind it, and what stands beside it
+-- a branch has a number, its leap, whether a clause ends with it, what goes on after it, and its
+-- later siblings
 pub data Tree : Type 0 where
   bare : Tree
   branch : ℕ → Leap → Bool → Tree → Tree → Tree
@@ -25,9 +26,11 @@ is_empty (n ∷ ns) = false
 -- whether some clause of the tree passes the test
 abbrev pub any_of : (List ℕ → Bool) → Tree → Bool
 any_of test bare = false
-any_of test (branch n leap ends below beside) = (ends && test (n ∷ [])) || (any_of (λ c. test (n ∷ c)) below || any_of test beside)
+any_of test (branch n leap ends below beside) =
+    (ends && test (n ∷ [])) || (any_of (λ c. test (n ∷ c)) below || any_of test beside)
 
--- the tree with one more clause, which comes before the others; where it parts from them, it leaps
+-- the tree with one more clause, which comes before the others; the first branch that it does not
+-- share with them gets the leap
 abbrev pub with_clause : Leap → List ℕ → Tree → Tree
 with_clause own [] tree = tree
 with_clause own (n ∷ ns) bare = branch n own (is_empty ns) (with_clause no_leap ns bare) bare
@@ -48,7 +51,7 @@ abbrev pub tree_of : List Leap → List (List ℕ) → Tree
 tree_of leaps [] = bare
 tree_of leaps (c ∷ cs) = with_clause (first_leap leaps) c (tree_of (later_leaps leaps) cs)
 
--- with how many numbers a clause begins like the first of the tree
+-- how many first numbers a clause shares with the first one of the tree
 abbrev pub shared : List ℕ → Tree → ℕ
 shared [] tree = 0
 shared (n ∷ ns) bare = 0
@@ -58,39 +61,49 @@ abbrev pub size_of : Tree → ℕ
 size_of bare = 0
 size_of (branch n leap ends below beside) = suc (size_of beside + size_of below)
 
--- the place where those nodes begin among which a clause parts from the first of the tree
+-- the place at which those nodes begin among which a clause parts from the first one of the tree
 abbrev pub begin_of : ℕ → List ℕ → Tree → ℕ
 begin_of from [] tree = from
 begin_of from (n ∷ ns) bare = from
-begin_of from (n ∷ ns) (branch m leap ends below beside) = cond (eqb n m) (begin_of (from + size_of beside) ns below) from
+begin_of from (n ∷ ns) (branch m leap ends below beside) =
+    cond (eqb n m) (begin_of (from + size_of beside) ns below) from
 
--- what stands beside so many branches
+-- the tree without its first k branches
 abbrev pub past : ℕ → Tree → Tree
 past zero tree = tree
 past (suc k) bare = bare
 past (suc k) (branch n leap ends below beside) = past k beside
 
--- the nodes of a tree from a place on: those beside the first branch, then those behind it, and then its own
+-- the nodes of a tree from a place on: those of the siblings of the first branch, then those below
+-- it, and then its own
 abbrev pub nodes_of : ℕ → Tree → List Node
 nodes_of from bare = []
 nodes_of from (branch n leap b below beside) =
     nodes_of from beside ++ (nodes_of (from + size_of beside) below
-    ++ (record { number = n; start = from + size_of beside; far = from + size_of (past leap.over beside); rank = leap.rank; ends = b } ∷ []))
+    ++ (record {
+      number = n;
+      start = from + size_of beside;
+      far = from + size_of (past leap.over beside);
+      rank = leap.rank;
+      ends = b;
+    } ∷ []))
 
--- the nodes of numbers that follow one another, in which no clause ends yet; the first one leaps
+-- the nodes of a chain of numbers, in which no clause ends yet; the first one leaps
 abbrev pub chain : ℕ → ℕ → ℕ → List ℕ → List Node
 chain place far rank [] = []
-chain place far rank (n ∷ ns) = chain place place 0 ns ++ (record { number = n; start = place; far = far; rank = rank; ends = false } ∷ [])
+chain place far rank (n ∷ ns) = chain place place 0 ns
+    ++ (record { number = n; start = place; far = far; rank = rank; ends = false } ∷ [])
 
 -- each number of the tree is greater
 abbrev pub Above : ℕ → Tree → Type 0
 Above n bare = Unit
 Above n (branch m leap ends below beside) = (n < m) × Above n below × Above n beside
 
--- numbers rise along the branches, and from branch to branch
+-- numbers rise from a branch to those below it, and from sibling to sibling
 abbrev pub Climbs : Tree → Type 0
 Climbs bare = Unit
-Climbs (branch n leap ends below beside) = (Above n below × Above n beside) × (Climbs below × Climbs beside)
+Climbs (branch n leap ends below beside) =
+    (Above n below × Above n beside) × (Climbs below × Climbs beside)
 
 -- the nodes from a place on are those of a tree
 pub record Standing (from : ℕ) (nodes : List Node) : Type 0 where
@@ -105,12 +118,12 @@ pub record Grows (clause : List ℕ) (tree : Tree) (nodes : List Node) : Type 0 
   pub leap : Leap
   pub is : nodes ≡ nodes_of 0 (with_clause leap clause tree)
 
--- the nodes up to the place are those that are left of the tree behind some of its first branches
+-- the nodes up to the place are those of the tree without some of its first branches
 pub record Leaps (from : ℕ) (tree : Tree) (far : ℕ) : Type 0 where
   pub over : ℕ
   pub is : far ≡ from + size_of (past over tree)
 
--- the place is that to which the node leaps, and the number there is no greater
+-- the place is that to which the node leaps, and the number there is no greater than this one
 pub record Leapt (nodes : List Node) (from : ℕ) (node : Node) (number place : ℕ) : Type 0 where
   pub some : from < node.far
   pub is : place ≡ node.far
@@ -123,12 +136,13 @@ pub record BuiltOf (built : FamilyTree) (family : List (List ℕ)) : Type 0 wher
   pub empty : built.holds_empty ≡ list_any is_empty family
   pub short : (c : List ℕ) → In c family → built.shortest ≤ length c
 
--- and the family is in order
+-- the tree was built of the clauses of a family in order
 pub record TreeOf (built : FamilyTree) (family : List (List ℕ)) : Type 0 where
   pub in_order : InOrder family
   pub rising : (c : List ℕ) → In c family → Ascending c
   pub by : BuiltOf built family
 
+-- the tree is that of some family
 pub record HasFamily (built : FamilyTree) : Type 0 where
   pub family : List (List ℕ)
   pub tells : TreeOf built family

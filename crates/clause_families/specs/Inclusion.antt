@@ -10,6 +10,10 @@ is_strictly_inside S T = ltb (length S) (length T) && is_inside S T
 abbrev pub has_shorter : List (List ℕ) → List ℕ → Bool
 has_shorter family clause = list_any (λ other. is_strictly_inside other clause) family
 
+-- whether a clause of the family is within the clause
+abbrev pub some_inside : List (List ℕ) → List ℕ → Bool
+some_inside family clause = list_any (λ other. is_inside other clause) family
+
 -- whether the clause has fewer numbers than the size, all of them wanted
 abbrev pub is_within : List ℕ → ℕ → List ℕ → Bool
 is_within wanted size clause = ltb (length clause) size && is_inside clause wanted

@@ -2,4 +2,5 @@ pub mod Unions
 pub mod Inclusion
 pub mod Branches
 pub mod Families
+pub mod Counting
 pub mod Laws

@@ -1,4 +1,5 @@
-//! The clauses that may stand in a row once a package is taken out, in scratch space.
+//! The clauses that a row may have once a package is taken out, made in scratch space before they
+//! go into the pool.
 ghost use Rattle.std.specs.{Prelude.{◌≡◌, ℕ, ◌<◌, ◌++◌, List, IfOk, OnOk, length}, List.{filter}, Option.{ForSome}};
 ghost use Rattle.clause_pool.specs.{Interned.{clauses_at, row_at, Kept, OfPool, IsPool}, Clauses.{apart_from, minimal_of, in_row_order}, Lists.{InOrder}};
 ghost use Rattle.listed.specs.Lists.{In, Ascending, Inside};
@@ -12,8 +13,8 @@ use clause_pool::{ClauseId, Pool, RowId};
 use listed::holds_ascending;
 use std::alloc::{AllocError, Global};
 
-/// The minimal clauses of the row with unions in the place of the clauses that hold the spent package: those of each such
-/// clause, without the package, with each useful clause.
+/// The minimal clauses of the row once each clause that holds the spent package is replaced by its
+/// unions, without the package, with the useful clauses.
 pub fn with_unions(
     alloc: Global,
     pool: &mut Pool,
@@ -26,24 +27,28 @@ pub fn with_unions(
     requires in_order { InOrder (clauses_at pool.old row.now) }
     requires useful { OfPool pool.old useful.now }
     requires own { (c : List ℕ) → In c (clauses_at pool.old useful.now) → In spent c → ⊥ }
-    requires minimal { (c d : List ℕ) → In c (clauses_at pool.old row.now) → In d (clauses_at pool.old row.now) → Inside c d → c ≡ d }
-    ensures ok { IfOk result (λ ids. clauses_at pool.new ids.items ≡ minimal_of (in_row_order (apart_from spent (clauses_at pool.old row.now)
+    requires minimal { (c d : List ℕ) → In c (clauses_at pool.old row.now) →
+        In d (clauses_at pool.old row.now) → Inside c d → c ≡ d }
+    ensures ok { IfOk result (λ ids. clauses_at pool.new ids.items
+        ≡ minimal_of (in_row_order (apart_from spent (clauses_at pool.old row.now)
         ++ all_unions spent (clauses_at pool.old row.now) (clauses_at pool.old useful.now)))) }
     ensures of_pool { IfOk result (λ ids. OfPool pool.new ids.items) }
     ensures kept { Kept pool.old pool.new }
 {
-    // The clauses of the row are minimal among themselves, so only the unions are tested against them, and they against the unions.
+    // No clause of the row is within another one, so the row's clauses are tested against the
+    // unions only.
     let unions = unions_in_order(alloc, pool, spent, row, useful)?;
     let tree = tree_of_many(alloc, unions.as_slice())?;
     let kept = tree_beside(alloc, pool, spent, row, unions.as_slice())?;
     let mut ids = ids_beside(alloc, pool, spent, row, unions.as_slice(), &tree)?;
     put_unions(pool, spent, row, &kept, unions.as_slice(), &tree, &mut ids)?;
-    // Most unions may have been needless, and rows stay for long.
+    // There was room for all unions. Most of them may be needless, and rows stay for long.
     ids.shrink_to_fit();
     Ok(ids)
 }
 
-/// The unions of each clause of the row that holds the spent package, without it, with each useful clause, in order.
+/// The unions of each clause of the row that holds the spent package, without it, with each useful
+/// clause, in order.
 fn unions_in_order(
     alloc: Global,
     pool: &Pool,
@@ -55,7 +60,8 @@ fn unions_in_order(
     requires useful { OfPool pool.now useful.now }
     ensures in_order { IfOk result (λ unions. InOrder unions.items) }
     ensures same { IfOk result (λ unions.
-        SameClauses (all_unions spent (clauses_at pool.now row.now) (clauses_at pool.now useful.now)) unions.items) }
+        SameClauses (all_unions spent (clauses_at pool.now row.now)
+        (clauses_at pool.now useful.now)) unions.items) }
 {
     let mut unions = Vec::with_capacity(alloc, useful.len())?;
     add_unions(alloc, pool, spent, row, useful, &mut unions)?;
@@ -63,7 +69,7 @@ fn unions_in_order(
     Ok(unions)
 }
 
-/// The ids of the clauses that do not hold a number and have no shorter one of the unions within them.
+/// The ids of the clauses that do not hold a number and have no shorter union within them.
 fn ids_beside(
     alloc: Global,
     pool: &Pool,
@@ -87,7 +93,8 @@ fn ids_beside(
     Ok(ids)
 }
 
-/// Puts the unions that are needed beside the clauses of the row without the spent package into their places.
+/// Puts the unions that are needed beside the kept clauses of the row into their places among the
+/// ids.
 fn put_unions(
     pool: &mut Pool,
     spent: u32,
@@ -100,13 +107,15 @@ fn put_unions(
     requires pool { IsPool pool.old }
     requires row { OfPool pool.old row.now }
     requires ordered { InOrder (clauses_at pool.old row.now) }
-    requires kept { ForSome kept.now (λ t. TreeOf t (apart_from spent (clauses_at pool.old row.now))) }
+    requires kept { ForSome kept.now (λ t.
+        TreeOf t (apart_from spent (clauses_at pool.old row.now))) }
     requires tree { ForSome tree.now (λ t. TreeOf t unions.now) }
     requires rising { (c : List ℕ) → In c unions.now → Ascending c }
     requires apart { (c : List ℕ) → In c unions.now → In spent c → ⊥ }
     requires of_pool { OfPool pool.old ids.old.items }
     requires in_order { InOrder (clauses_at pool.old ids.old.items) }
-    ensures ok { OnOk result (HasUnions (clauses_at pool.old ids.old.items) (apart_from spent (clauses_at pool.old row.now)) unions.now unions.now (clauses_at pool.new ids.new.items)) }
+    ensures ok { OnOk result (HasUnions (clauses_at pool.old ids.old.items) (apart_from spent
+        (clauses_at pool.old row.now)) unions.now unions.now (clauses_at pool.new ids.new.items)) }
     ensures of_pool { OnOk result (OfPool pool.new ids.new.items) }
     ensures kept { Kept pool.old pool.new }
 {
@@ -119,7 +128,7 @@ fn put_unions(
     Ok(())
 }
 
-/// The clauses that do not hold a number.
+/// Copies of the clauses that do not hold a number.
 pub fn clauses_without(
     alloc: Global,
     pool: &Pool,
@@ -127,7 +136,8 @@ pub fn clauses_without(
     row: &[ClauseId],
 ) -> Result<Vec<Clause>, AllocError>
     requires { OfPool pool.now row.now }
-    ensures { IfOk result (λ family. family.items ≡ apart_from number (clauses_at pool.now row.now)) }
+    ensures { IfOk result (λ family. family.items
+        ≡ apart_from number (clauses_at pool.now row.now)) }
 {
     let mut family = Vec::new(alloc);
     for id in row {
@@ -139,7 +149,8 @@ pub fn clauses_without(
     Ok(family)
 }
 
-/// Puts the unions of each clause that holds the spent package behind the others.
+/// Appends, for each clause of the row that holds the spent package, its unions without the package
+/// with each of the others.
 pub fn add_unions(
     alloc: Global,
     pool: &Pool,
@@ -162,7 +173,7 @@ pub fn add_unions(
     Ok(())
 }
 
-/// Puts the unions of one clause behind the others.
+/// Appends the unions of one clause, without the spent package, with each of the others.
 fn add_unions_of(
     alloc: Global,
     pool: &Pool,
@@ -183,7 +194,7 @@ fn add_unions_of(
     Ok(())
 }
 
-/// Puts the clauses in order, each once.
+/// Sorts the clauses, and leaves each once.
 pub fn put_in_order(family: &mut Vec<Clause>)
     ensures in_order { InOrder family.new.items }
     ensures same { SameClauses family.old.items family.new.items }
@@ -192,7 +203,7 @@ pub fn put_in_order(family: &mut Vec<Clause>)
     family.dedup();
 }
 
-/// The row of the minimal clauses of the family, in the pool.
+/// Puts the row of the minimal clauses of the family into the pool.
 pub fn intern_minimal(
     alloc: Global,
     pool: &mut Pool,
@@ -209,7 +220,7 @@ pub fn intern_minimal(
     pool.intern_row(ids.as_slice())
 }
 
-/// The ids of the minimal clauses of the family, in its order.
+/// Puts the minimal clauses of the family into the pool, and returns their ids in its order.
 fn minimal_ids(
     alloc: Global,
     pool: &mut Pool,

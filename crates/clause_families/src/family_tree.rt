@@ -1,11 +1,12 @@
-//! A family of clauses as a tree, which tells without a look at each of them whether a shorter one is within a clause.
+//! A family of clauses as a tree, which finds a clause of the family within another clause without
+//! trying each.
 //!
-//! Halving groups of clauses that lie far apart in memory took twice as long. A tree takes 16 bytes a number, so only a large
-//! family gets one.
+//! Halving groups of clauses, which lie far apart in memory, took twice as long. A tree takes 16
+//! bytes a number, so only a large family gets one.
 ghost use Rattle.std.specs.Prelude.{◌≡◌, ◌<◌, ◌≤◌, ◌+◌, ◌-◌, ◌⊎◌, ◌&&◌, ◌++◌, ◌∷◌, ℕ, List, IfOk, OnOk, ltb, length, take, drop};
 ghost use Rattle.clause_pool.specs.{Interned.{clauses_at, OfPool}, Clauses.{apart_from}, Lists.{InOrder}};
 ghost use Rattle.listed.specs.Lists.{In, Ascending};
-ghost use Rattle.clause_families.specs.Inclusion.{has_shorter, is_within};
+ghost use Rattle.clause_families.specs.Inclusion.{has_shorter, is_within, some_inside};
 ghost use Rattle.clause_families.specs.Branches.{any_of, begin_of, chain, nodes_of, shared, BuiltOf, Grows, HasFamily, Leaps, Leapt, Standing, Tree, TreeOf};
 
 use crate::scratch::Clause;
@@ -16,23 +17,24 @@ use std::alloc::{AllocError, Global};
 /// The places of a tree are below this, so that a node holds them in 32 bits.
 const MOST: usize = 4_294_967_295;
 
-/// A number of the tree. Behind the nodes that stand beside it, which have greater numbers, come those that go on behind
-/// it, and then the node itself.
+/// A number of the tree. In the list the siblings with greater numbers come first, each after its
+/// descendants, then the descendants of the node, and then the node.
 #[derive(Clone, Copy)]
 pub(crate) struct Node {
-    /// The place where the nodes that go on behind it begin.
+    /// The place at which its descendants begin.
     start: u32,
-    /// The place behind some of the nodes that stand beside it: a walk leaps there over those between.
+    /// The place after the sibling to which a walk can leap, over all those between.
     far: u32,
     number: u32,
-    /// 0 where the leap is to the next one, else one more than that of the two leaps that it takes at once. A walk to any of n
-    /// nodes that stand beside each other so takes some log n leaps.
+    /// 0 if the leap goes to the next sibling, else one more than the rank of the two leaps that it
+    /// takes at once. So a walk to any of n siblings takes about log n leaps.
     rank: u8,
     /// Whether a clause ends with it.
     ends: bool,
 }
 
-/// The clauses of a family by the numbers that they begin with: those that begin alike share the nodes up to there.
+/// The clauses of a family as a tree of their numbers, in which clauses that begin alike share
+/// nodes.
 #[derive(Drop)]
 pub struct FamilyTree {
     nodes: Vec<Node>,
@@ -59,7 +61,7 @@ impl FamilyTree {
         Ok(tree)
     }
 
-    /// The tree of the clauses that do not hold a number.
+    /// The tree of the clauses of a row that do not hold a number.
     pub(crate) fn without(
         alloc: Global,
         pool: &Pool,
@@ -68,8 +70,10 @@ impl FamilyTree {
     ) -> Result<FamilyTree, AllocError>
         requires row { OfPool pool.now row.now }
         requires in_order { InOrder (apart_from number (clauses_at pool.now row.now)) }
-        requires rising { (c : List ℕ) → In c (apart_from number (clauses_at pool.now row.now)) → Ascending c }
-        ensures { IfOk result (λ tree. TreeOf tree (apart_from number (clauses_at pool.now row.now))) }
+        requires rising { (c : List ℕ) →
+            In c (apart_from number (clauses_at pool.now row.now)) → Ascending c }
+        ensures { IfOk result (λ tree.
+            TreeOf tree (apart_from number (clauses_at pool.now row.now))) }
     {
         let mut tree = FamilyTree {
             nodes: Vec::with_capacity(alloc, numbers_in(pool, row))?,
@@ -85,9 +89,10 @@ impl FamilyTree {
         Ok(tree)
     }
 
-    /// Puts a clause before those of the tree.
-    fn put(&mut self, clause: &[u32]) -> Result<(), AllocError>
-        ensures { OnOk result ((family : List (List ℕ)) → BuiltOf self.old family → BuiltOf self.new (clause.now ∷ family)) }
+    /// Adds a clause that comes before those of the tree.
+    pub(crate) fn put(&mut self, clause: &[u32]) -> Result<(), AllocError>
+        ensures { OnOk result ((family : List (List ℕ)) → BuiltOf self.old family →
+            BuiltOf self.new (clause.now ∷ family)) }
     {
         self.shortest = least_of(self.shortest, clause.len());
         if clause.is_empty() {
@@ -101,7 +106,8 @@ impl FamilyTree {
     pub(crate) fn has_shorter(&self, clause: &[u32]) -> bool
         requires tree { HasFamily self.now }
         requires ascending { Ascending clause.now }
-        ensures { (family : List (List ℕ)) → TreeOf self.now family → result ≡ has_shorter family clause.now }
+        ensures { (family : List (List ℕ)) → TreeOf self.now family →
+            result ≡ has_shorter family clause.now }
     {
         if clause.len() <= self.shortest {
             return false;
@@ -111,10 +117,26 @@ impl FamilyTree {
         }
         has_within(self.nodes.as_slice(), 0, clause, clause.len())
     }
+
+    /// Whether a clause of the family is within the clause.
+    pub(crate) fn has_inside(&self, clause: &[u32]) -> bool
+        requires tree { HasFamily self.now }
+        requires ascending { Ascending clause.now }
+        ensures { (family : List (List ℕ)) → TreeOf self.now family →
+            result ≡ some_inside family clause.now }
+    {
+        if clause.len() < self.shortest {
+            return false;
+        }
+        if self.holds_empty {
+            return true;
+        }
+        has_within(self.nodes.as_slice(), 0, clause, clause.len() + 1)
+    }
 }
 
-/// How many numbers the clauses have together: a tree has no more nodes. With room for all at once no node is copied as a
-/// large tree grows, and room that is not used is never touched.
+/// How many numbers the clauses have together: a tree has no more nodes. With room for all at once
+/// no node is copied as a large tree grows, and unused room is never touched.
 fn numbers_of(family: &[Clause]) -> usize {
     let mut count: usize = 0;
     for clause in family {
@@ -123,7 +145,7 @@ fn numbers_of(family: &[Clause]) -> usize {
     count
 }
 
-/// The same for the clauses of a row.
+/// How many numbers the clauses of a row have together.
 fn numbers_in(pool: &Pool, row: &[ClauseId]) -> usize
     requires { OfPool pool.now row.now }
 {
@@ -134,7 +156,7 @@ fn numbers_in(pool: &Pool, row: &[ClauseId]) -> usize
     count
 }
 
-/// The lesser number.
+/// The lesser of two numbers.
 fn least_of(first: usize, second: usize) -> usize
     ensures first { result ≤ first }
     ensures second { result ≤ second }
@@ -142,10 +164,12 @@ fn least_of(first: usize, second: usize) -> usize
     if first < second { first } else { second }
 }
 
-/// Puts the nodes of a clause before those of the tree, but for those that it shares with the first clause there.
+/// Adds the nodes of a clause that comes before those of the tree, except the ones that it shares
+/// with the first clause there.
 fn put_nodes(nodes: &mut Vec<Node>, clause: &[u32]) -> Result<(), AllocError>
     requires { 0 < length clause.now }
-    ensures { OnOk result ((tree : Tree) → nodes.old.items ≡ nodes_of 0 tree → Grows clause.now tree nodes.new.items) }
+    ensures { OnOk result ((tree : Tree) → nodes.old.items ≡ nodes_of 0 tree →
+        Grows clause.now tree nodes.new.items) }
 {
     let shared = shared(nodes.as_slice(), clause);
     let known = shared.0;
@@ -160,12 +184,15 @@ fn put_nodes(nodes: &mut Vec<Node>, clause: &[u32]) -> Result<(), AllocError>
     Ok(())
 }
 
-/// With how many numbers the clause begins like the first one of the tree, and where the nodes begin that go on behind them.
+/// How many first numbers the clause shares with the first clause of the tree, and the place at
+/// which the nodes that go on after these begin.
 fn shared(nodes: &[Node], clause: &[u32]) -> (usize, u32)
     ensures there { result.0 ≤ length nodes.now }
     ensures within { result.0 ≤ length clause.now }
-    ensures shared { (tree : Tree) → nodes.now ≡ nodes_of 0 tree → result.0 ≡ shared clause.now tree }
-    ensures from { (tree : Tree) → nodes.now ≡ nodes_of 0 tree → result.1 ≡ begin_of 0 clause.now tree }
+    ensures shared { (tree : Tree) → nodes.now ≡ nodes_of 0 tree →
+        result.0 ≡ shared clause.now tree }
+    ensures from { (tree : Tree) → nodes.now ≡ nodes_of 0 tree →
+        result.1 ≡ begin_of 0 clause.now tree }
 {
     let mut left = nodes;
     let mut from = 0;
@@ -182,11 +209,12 @@ fn shared(nodes: &[Node], clause: &[u32]) -> (usize, u32)
     (clause.len(), from)
 }
 
-/// The place to which a node leaps that is put before the first branch of a tree, and its rank: where the next two leaps
-/// from there are of one rank it takes both at once, and else it goes to the next node.
+/// The place to which a new first sibling leaps, and the rank of its leap. If the next two leaps
+/// have the same rank it takes both at once, else it goes to the next sibling.
 fn leap_of(nodes: &[Node], from: u32) -> (u32, u8)
     requires { length nodes.now < 4294967295 }
-    ensures { (tree : Tree) → (front : List Node) → length front ≡ from → nodes.now ≡ front ++ nodes_of from tree → Leaps from tree result.0 }
+    ensures { (tree : Tree) → (front : List Node) → length front ≡ from →
+        nodes.now ≡ front ++ nodes_of from tree → Leaps from tree result.0 }
 {
     let place = nodes.len() as u32;
     if place <= from {
@@ -203,7 +231,8 @@ fn leap_of(nodes: &[Node], from: u32) -> (u32, u8)
     (place, 0)
 }
 
-/// Puts nodes of the numbers, each behind the one before it, at a place. The first one leaps.
+/// Inserts nodes of the numbers at a place, each the child of the one before; the first one gets
+/// the leap.
 fn add_chain(
     nodes: &mut Vec<Node>,
     place: usize,
@@ -213,7 +242,8 @@ fn add_chain(
 ) -> Result<(), AllocError>
     requires place { place ≤ length nodes.old.items }
     requires few { place < 4294967295 }
-    ensures { OnOk result (nodes.new.items ≡ take place nodes.old.items ++ (chain place far rank numbers.now ++ drop place nodes.old.items)) }
+    ensures { OnOk result (nodes.new.items ≡ take place nodes.old.items
+        ++ (chain place far rank numbers.now ++ drop place nodes.old.items)) }
 {
     let Some((number, rest)) = numbers.split_first() else {
         return Ok(());
@@ -233,16 +263,17 @@ fn add_chain(
     Ok(())
 }
 
-/// Moves so many nodes from a place on behind the others.
+/// Moves the first nodes from a place on to the end of the list.
 fn turn_from(nodes: &mut [Node], place: usize, moved: usize)
     requires { place + moved ≤ length nodes.old }
-    ensures turned { nodes.new ≡ take place nodes.old ++ (drop moved (drop place nodes.old) ++ take moved (drop place nodes.old)) }
+    ensures turned { nodes.new ≡ take place nodes.old
+        ++ (drop moved (drop place nodes.old) ++ take moved (drop place nodes.old)) }
     ensures len { length nodes.new ≡ length nodes.old }
 {
     nodes[place..].rotate_left(moved);
 }
 
-/// Puts nodes of the numbers that follow those of a place behind the others, the last number first.
+/// Appends nodes of the numbers, each the child of the one before, the last number first.
 fn push_chain(nodes: &mut Vec<Node>, place: u32, numbers: &[u32]) -> Result<(), AllocError>
     ensures { OnOk result (nodes.new.items ≡ nodes.old.items ++ chain place place 0 numbers.now) }
 {
@@ -260,13 +291,14 @@ fn push_chain(nodes: &mut Vec<Node>, place: u32, numbers: &[u32]) -> Result<(), 
     Ok(())
 }
 
-/// Whether a clause of the tree that stands in the nodes from a place on has fewer numbers than the size, all of them
-/// wanted. As clauses ascend, each goes on with the wanted numbers behind that which it has at a node. A call is made only
-/// where nodes part, so that long clauses alone make no deep calls.
+/// Whether a clause of the tree in the nodes from a place on is within the wanted numbers, and has
+/// fewer numbers than the size. Clauses ascend, so after a node only greater wanted numbers are
+/// looked at.
 fn has_within(nodes: &[Node], from: u32, wanted: &[u32], size: usize) -> bool
     requires tree { Standing from nodes.now }
     requires ascending { Ascending wanted.now }
-    ensures { (tree : Standing from nodes.now) → result ≡ any_of (is_within wanted.now size) tree.tree }
+    ensures { (tree : Standing from nodes.now) →
+        result ≡ any_of (is_within wanted.now size) tree.tree }
 {
     let mut left = nodes;
     let mut ahead = wanted;
@@ -286,6 +318,7 @@ fn has_within(nodes: &[Node], from: u32, wanted: &[u32], size: usize) -> bool
             if is_end(node, room) {
                 return true;
             }
+            // It calls itself only if siblings are left, so long clauses alone make no deep calls.
             if node.start == from {
                 left = others;
                 room = room.saturating_sub(1);
@@ -301,15 +334,16 @@ fn has_within(nodes: &[Node], from: u32, wanted: &[u32], size: usize) -> bool
     false
 }
 
-/// Whether a clause ends with the node that has fewer numbers than the size, where it has this one alone.
+/// Whether a clause ends with the node, and one number is fewer than the size.
 fn is_end(node: &Node, size: usize) -> bool
     ensures { result ≡ (node.now.ends && ltb 1 size) }
 {
     node.ends && 1 < size
 }
 
-/// The place to go on from behind a node with a lesser number than the wanted one: that to which it leaps, where the number
-/// there is no greater than the wanted one, or else that of the next node.
+/// The place from which to go on after a node with a lesser number than the wanted one. It is that
+/// of the leap if the number there is no greater than the wanted one, else that of the next
+/// sibling.
 fn place_behind(nodes: &[Node], from: u32, node: &Node, number: u32) -> u32
     requires { node.now.far ≤ length nodes.now }
     ensures { (result ≡ node.now.start) ⊎ Leapt nodes.now from node.now number result }

@@ -1,7 +1,8 @@
-//! Which clauses of a row and which unions are needed: few are looked at one by one, and many are put into trees.
+//! Which clauses of a row and which unions are needed: few are looked at one by one, and many are
+//! put into trees.
 //!
-//! A union that equals a kept clause may be called needless, as that clause stays. A union holds no spent package, so no clause
-//! that holds one is within it.
+//! A union that equals a kept clause may be called needless, since that clause stays. No union
+//! holds the spent package, so no clause that holds it is within a union.
 ghost use Rattle.std.specs.{Prelude.{◌≡◌, ℕ, ◌<◌, ◌≤◌, List, IfOk, length, false, None}, Bool.{OnFalse, OnTrue}, Option.{ForSome}};
 ghost use Rattle.clause_pool.specs.{Interned.{clauses_at, OfPool, IsPool}, Clauses.{apart_from}, Lists.{InOrder}, Within.{some_within}};
 ghost use Rattle.listed.specs.Lists.{In, Ascending};
@@ -14,13 +15,13 @@ use clause_pool::{ClauseId, Pool, has_within};
 use listed::{holds_ascending, is_inside_ascending};
 use std::alloc::{AllocError, Global};
 
-/// So few clauses that each of them is looked at.
+/// A family with no more clauses than this gets no tree: each of them is looked at.
 const FEW: usize = 4;
 
-/// A row is searched as it is where it has so many clauses for each number of the unions.
+/// A row gets no tree if it has this many clauses or more for each number of the unions.
 const SHARE: usize = 8;
 
-/// The tree of a family in order, where it has more than a few clauses.
+/// The tree of a family, if it has more than a few clauses.
 pub fn tree_of_many(alloc: Global, family: &[Clause]) -> Result<Option<FamilyTree>, AllocError>
     requires in_order { InOrder family.now }
     requires rising { (c : List ℕ) → In c family.now → Ascending c }
@@ -33,7 +34,8 @@ pub fn tree_of_many(alloc: Global, family: &[Clause]) -> Result<Option<FamilyTre
     Ok(Some(FamilyTree::of(alloc, family)?))
 }
 
-/// The tree of the clauses of a row that do not hold a number, where unions have so many numbers that it is worth while.
+/// The tree of the clauses of a row that do not hold a number, if the unions have enough numbers to
+/// make it worth while.
 pub(crate) fn tree_beside(
     alloc: Global,
     pool: &Pool,
@@ -43,8 +45,10 @@ pub(crate) fn tree_beside(
 ) -> Result<Option<FamilyTree>, AllocError>
     requires row { OfPool pool.now row.now }
     requires in_order { InOrder (apart_from number (clauses_at pool.now row.now)) }
-    requires rising { (c : List ℕ) → In c (apart_from number (clauses_at pool.now row.now)) → Ascending c }
-    ensures { IfOk result (λ tree. ForSome tree (λ t. TreeOf t (apart_from number (clauses_at pool.now row.now)))) }
+    requires rising { (c : List ℕ) →
+        In c (apart_from number (clauses_at pool.now row.now)) → Ascending c }
+    ensures { IfOk result (λ tree.
+        ForSome tree (λ t. TreeOf t (apart_from number (clauses_at pool.now row.now)))) }
 {
     if have_at_most(unions, row.len() / SHARE) {
         return Ok(None);
@@ -52,7 +56,7 @@ pub(crate) fn tree_beside(
     Ok(Some(FamilyTree::without(alloc, pool, number, row)?))
 }
 
-/// Whether the clauses together have no more numbers than the bound; they are counted no further than that.
+/// Whether the clauses together have no more numbers than the bound, at which counting stops.
 fn have_at_most(family: &[Clause], bound: usize) -> bool {
     let mut left = bound;
     for clause in family {
@@ -65,7 +69,7 @@ fn have_at_most(family: &[Clause], bound: usize) -> bool {
     true
 }
 
-/// Whether the clause does not hold the number, and has no shorter one of the unions within it.
+/// Whether the clause does not hold the number, and no shorter union is within it.
 pub(crate) fn stays(
     number: u32,
     unions: &[Clause],
@@ -79,8 +83,8 @@ pub(crate) fn stays(
     !holds_ascending(clause, number) && !is_longer(unions, tree, clause)
 }
 
-/// Whether a union is needed beside the clauses of a row that do not hold the spent package: not where a shorter union or
-/// one of these clauses is within it.
+/// Whether a union is needed beside the clauses of a row that do not hold the spent package: no
+/// shorter union and none of these clauses is within it.
 pub(crate) fn is_needed(
     pool: &Pool,
     spent: u32,
@@ -93,12 +97,15 @@ pub(crate) fn is_needed(
     requires pool { IsPool pool.now }
     requires row { OfPool pool.now row.now }
     requires in_order { InOrder (clauses_at pool.now row.now) }
-    requires kept { ForSome kept.now (λ t. TreeOf t (apart_from spent (clauses_at pool.now row.now))) }
+    requires kept { ForSome kept.now (λ t.
+        TreeOf t (apart_from spent (clauses_at pool.now row.now))) }
     requires tree { ForSome tree.now (λ t. TreeOf t unions.now) }
     requires ascending { Ascending union.now }
     requires apart { In spent union.now → ⊥ }
-    ensures needed { OnTrue result (IsShortest (apart_from spent (clauses_at pool.now row.now)) unions.now union.now) }
-    ensures needless { OnFalse result (IsNeedless (apart_from spent (clauses_at pool.now row.now)) unions.now union.now) }
+    ensures needed { OnTrue result
+        (IsShortest (apart_from spent (clauses_at pool.now row.now)) unions.now union.now) }
+    ensures needless { OnFalse result
+        (IsNeedless (apart_from spent (clauses_at pool.now row.now)) unions.now union.now) }
 {
     if is_longer(unions, tree, union) {
         return false;
@@ -121,7 +128,7 @@ pub fn is_longer(family: &[Clause], tree: &Option<FamilyTree>, clause: &[u32]) -
     }
 }
 
-/// The same, by a look at each clause of the family.
+/// Whether a shorter clause of the family is within the clause, by a look at each.
 fn has_shorter_among(family: &[Clause], clause: &[u32]) -> bool
     requires { Ascending clause.now }
     ensures { result ≡ has_shorter family.now clause.now }
@@ -142,8 +149,8 @@ fn is_strictly_inside(small: &[u32], large: &[u32]) -> bool
     small.len() < large.len() && is_inside_ascending(small, large)
 }
 
-/// Whether one of the clauses of the row that do not hold a number is within a clause that does not hold it either. One that
-/// is equal may be left aside.
+/// Whether a clause of the row without a number is within a clause without it; an equal one may be
+/// missed.
 fn includes_one(
     pool: &Pool,
     number: u32,
@@ -154,11 +161,14 @@ fn includes_one(
     requires pool { IsPool pool.now }
     requires row { OfPool pool.now row.now }
     requires in_order { InOrder (clauses_at pool.now row.now) }
-    requires kept { ForSome kept.now (λ t. TreeOf t (apart_from number (clauses_at pool.now row.now))) }
+    requires kept { ForSome kept.now (λ t.
+        TreeOf t (apart_from number (clauses_at pool.now row.now))) }
     requires ascending { Ascending clause.now }
     requires apart { In number clause.now → ⊥ }
-    ensures found { OnTrue result (IncludesOneOf (apart_from number (clauses_at pool.now row.now)) clause.now) }
-    ensures clear { OnFalse result (has_shorter (apart_from number (clauses_at pool.now row.now)) clause.now ≡ false) }
+    ensures found { OnTrue result
+        (IncludesOneOf (apart_from number (clauses_at pool.now row.now)) clause.now) }
+    ensures clear { OnFalse result
+        (has_shorter (apart_from number (clauses_at pool.now row.now)) clause.now ≡ false) }
 {
     match kept {
         Some(tree) => tree.has_shorter(clause),
@@ -166,7 +176,8 @@ fn includes_one(
     }
 }
 
-/// Whether a clause of the row is within the clause. None that holds a number can be, where the clause does not hold it.
+/// Whether a clause of the row is within the clause; one that holds a number which the clause lacks
+/// cannot be.
 fn row_includes_one(pool: &Pool, row: &[ClauseId], clause: &[u32]) -> bool
     requires pool { IsPool pool.now }
     requires row { OfPool pool.now row.now }

@@ -1,4 +1,4 @@
-//! Rows of ids that grow, in the order of their clauses.
+//! Puts ids into rows in the order of their clauses.
 ghost use Rattle.std.specs.Prelude.{◌≡◌, ◌≤◌, ◌<◌, ℕ, length, true, false, slice_index_or, OnOk};
 ghost use Rattle.clause_pool.specs.{Interned.{clause_at, clauses_at, OfPool, IsPool}, Clauses.{comes_before}, Lists.{InOrder}};
 ghost use Rattle.clause_families.specs.Families.{HasGained};
@@ -6,7 +6,8 @@ ghost use Rattle.clause_families.specs.Families.{HasGained};
 use clause_pool::{ClauseId, Pool, is_before};
 use std::alloc::AllocError;
 
-/// Puts the id of a clause into its place among ids in the order of their clauses, where it is not there yet.
+/// Puts the id of a clause into its place among ids in the order of their clauses, if it is not
+/// there yet.
 pub(crate) fn put_in_place(
     pool: &Pool,
     ids: &mut Vec<ClauseId>,
@@ -27,13 +28,16 @@ pub(crate) fn put_in_place(
     Ok(())
 }
 
-/// How many of the ids, in the order of their clauses, have a clause that comes before this one.
+/// How many of the ids, which are in the order of their clauses, have a clause that comes before
+/// this one.
 fn place_of(pool: &Pool, ids: &[ClauseId], clause: &[u32]) -> usize
     requires of_pool { OfPool pool.now ids.now }
     requires in_order { InOrder (clauses_at pool.now ids.now) }
     ensures bound { result ≤ length ids.now }
-    ensures before { (k : ℕ) → k < result → comes_before (clause_at pool.now (slice_index_or ids.now k 0)) clause.now ≡ true }
-    ensures behind { (k : ℕ) → result ≤ k → k < length ids.now → comes_before (clause_at pool.now (slice_index_or ids.now k 0)) clause.now ≡ false }
+    ensures before { (k : ℕ) → k < result →
+        comes_before (clause_at pool.now (slice_index_or ids.now k 0)) clause.now ≡ true }
+    ensures behind { (k : ℕ) → result ≤ k → k < length ids.now →
+        comes_before (clause_at pool.now (slice_index_or ids.now k 0)) clause.now ≡ false }
 {
     let mut low = 0;
     let mut high = ids.len();

@@ -1,4 +1,4 @@
-//! One row once a package is taken out.
+//! The row of a user once a package is taken out.
 ghost use Rattle.std.specs.Prelude.{◌≡◌, ◌<◌, ℕ, List, IfOk, length};
 ghost use Rattle.clause_pool.specs.{Interned.{clauses_at, IsPool, Kept, OfPool}, Clauses.{apart_from, in_row_order}, Lists.{InOrder}};
 ghost use Rattle.listed.specs.Lists.{In, Inside};
@@ -9,8 +9,8 @@ use crate::useful::useful_of;
 use clause_pool::{ClauseId, Pool};
 use std::alloc::{AllocError, Global};
 
-/// The row of a user once the spent package is taken out, whose own row is the other one; it fails only where no memory
-/// is found. What the pool held stays.
+/// The row of a user once the spent package, whose own row is `others`, is taken out; it fails only
+/// if no memory is found.
 pub fn rewrite(
     alloc: Global,
     pool: &mut Pool,
@@ -25,9 +25,11 @@ pub fn rewrite(
     requires others { OfPool pool.old others.now }
     requires apart { (c : List ℕ) → In c (clauses_at pool.old row.now) → In user c → ⊥ }
     requires own { (c : List ℕ) → In c (clauses_at pool.old others.now) → In spent c → ⊥ }
-    requires minimal { (c d : List ℕ) → In c (clauses_at pool.old row.now) → In d (clauses_at pool.old row.now) → Inside c d → c ≡ d }
+    requires minimal { (c d : List ℕ) → In c (clauses_at pool.old row.now) →
+        In d (clauses_at pool.old row.now) → Inside c d → c ≡ d }
     ensures ok { IfOk result (λ ids. clauses_at pool.new ids.items
-        ≡ in_row_order (substituted user spent (clauses_at pool.old row.now) (clauses_at pool.old others.now))) }
+        ≡ in_row_order
+        (substituted user spent (clauses_at pool.old row.now) (clauses_at pool.old others.now))) }
     ensures of_pool { IfOk result (λ ids. OfPool pool.new ids.items) }
     ensures kept { Kept pool.old pool.new }
 {

@@ -10,8 +10,8 @@ use std::alloc::{AllocError, Global};
 use std::cmp::Ordering;
 use std::marker::Model;
 
-/// A clause that is not in the pool, in lexicographic order among others. Most clauses are short, and then take no memory
-/// of their own.
+/// A clause that is not in the pool; clauses are compared in lexicographic order. Most are short,
+/// and need no memory of their own.
 #[derive(Drop)]
 pub struct Clause {
     literals: SmallVec<u32, 6>,
@@ -74,7 +74,16 @@ impl Clause {
         Ok(Clause { literals })
     }
 
-    /// The union of two clauses without a number.
+    /// A clause without a number.
+    pub(crate) fn without(alloc: Global, number: u32, clause: &[u32]) -> Result<Clause, AllocError>
+        ensures { IfOk result (λ left. left ≡ clause_without number clause.now) }
+    {
+        let mut literals = SmallVec::new(alloc);
+        add_without(&mut literals, number, clause)?;
+        Ok(Clause { literals })
+    }
+
+    /// The union of a clause, without the spent package, with another one.
     pub(crate) fn union_without(
         alloc: Global,
         spent: u32,
@@ -83,7 +92,8 @@ impl Clause {
     ) -> Result<Clause, AllocError>
         requires clause { Ascending clause.now }
         requires other { Ascending other.now }
-        ensures { IfOk result (λ union. union ≡ union_of (clause_without spent clause.now) other.now) }
+        ensures { IfOk result (λ union. union
+            ≡ union_of (clause_without spent clause.now) other.now) }
     {
         let mut literals = SmallVec::new(alloc);
         let mut i = 0;
@@ -107,12 +117,12 @@ impl Clause {
         }
         add_without(&mut literals, spent, &clause[i..])?;
         literals.extend_from_slice(&other[j..])?;
-        // A long family holds many of them at once.
+        // A long family holds many unions at once, so unused room would add up.
         literals.shrink_to_fit();
         Ok(Clause { literals })
     }
 
-    /// Lends the literals in their order.
+    /// The literals in their order.
     pub fn as_slice(&self) -> &[u32]
         ensures { result.now ≡ self.now }
     {
@@ -120,13 +130,14 @@ impl Clause {
     }
 }
 
-/// Puts the literals of a clause, without a number, behind the others.
+/// Appends the literals of a clause without the spent package.
 fn add_without(
     literals: &mut SmallVec<u32, 6>,
     spent: u32,
     clause: &[u32],
 ) -> Result<(), AllocError>
-    ensures { OnOk result (literals.new.items ≡ literals.old.items ++ clause_without spent clause.now) }
+    ensures { OnOk result (literals.new.items
+        ≡ literals.old.items ++ clause_without spent clause.now) }
 {
     for literal in clause {
         if *literal != spent {

@@ -1,4 +1,4 @@
-//! Which clauses of a spent package's row may give unions that are wanted in a user's row.
+//! Which clauses of a spent package's row may give unions that a user's row needs.
 ghost use Rattle.std.specs.{Prelude.{◌≡◌, ℕ, ◌<◌, ◌∷◌, [], IfOk, IfSome, length}, Bool.{OnTrue}};
 ghost use Rattle.clause_pool.specs.{Interned.{clause_at, clauses_at, OfPool}, Clauses.{apart_from}};
 ghost use Rattle.listed.specs.Lists.{In};
@@ -8,8 +8,8 @@ use clause_pool::{ClauseId, Pool, is_before};
 use listed::holds_ascending;
 use std::alloc::{AllocError, Global};
 
-/// The clauses of the spent package's row whose unions may be wanted in the row of a user: they do not hold the user,
-/// and the most that include a clause of the user's row without the spent package are left out, first those that it has itself.
+/// The clauses of the spent package's row whose unions a user's row may need: they do not hold the
+/// user. Most of those that include a clause which the user's row keeps are left out.
 pub fn useful_of(
     alloc: Global,
     pool: &Pool,
@@ -21,7 +21,8 @@ pub fn useful_of(
     requires row { OfPool pool.now row.now }
     requires others { OfPool pool.now others.now }
     ensures { IfOk result (λ useful.
-        Useful pool.now user (IncludesOneOf (apart_from spent (clauses_at pool.now row.now))) others.now useful.items) }
+        Useful pool.now user
+        (IncludesOneOf (apart_from spent (clauses_at pool.now row.now))) others.now useful.items) }
 {
     if others.is_empty() {
         return Ok(Vec::new(alloc));
@@ -34,8 +35,8 @@ pub fn useful_of(
     useful_beside(alloc, pool, user, singles.as_slice(), fresh.as_slice())
 }
 
-/// The clauses that hold neither the user nor stand in its row without the spent package. Both rows are in order, so one walk over
-/// the user's row finds the most of those that stand in it.
+/// The clauses that do not hold the user, and are not kept by its row. Both rows are in order, so
+/// one walk over the user's row finds most of those that it keeps.
 fn fresh_of(
     alloc: Global,
     pool: &Pool,
@@ -47,7 +48,8 @@ fn fresh_of(
     requires row { OfPool pool.now row.now }
     requires others { OfPool pool.now others.now }
     ensures { IfOk result (λ fresh.
-        Useful pool.now user (IncludesOneOf (apart_from spent (clauses_at pool.now row.now))) others.now fresh.items) }
+        Useful pool.now user
+        (IncludesOneOf (apart_from spent (clauses_at pool.now row.now))) others.now fresh.items) }
 {
     let mut fresh = Vec::with_capacity(alloc, others.len())?;
     let mut place = 0;
@@ -76,7 +78,8 @@ fn place_from(pool: &Pool, row: &[ClauseId], start: usize, clause: &[u32]) -> us
 /// Whether the clause stands at the place of the row, and does not hold the spent package.
 fn stands_at(pool: &Pool, spent: u32, row: &[ClauseId], place: usize, id: ClauseId) -> bool
     requires { id < length pool.now.clauses }
-    ensures { OnTrue result (IncludesOneOf (apart_from spent (clauses_at pool.now row.now)) (clause_at pool.now id)) }
+    ensures { OnTrue result
+        (IncludesOneOf (apart_from spent (clauses_at pool.now row.now)) (clause_at pool.now id)) }
 {
     if is_at(row, place, id) {
         return !holds_ascending(pool.slice(id), spent);
@@ -84,7 +87,7 @@ fn stands_at(pool: &Pool, spent: u32, row: &[ClauseId], place: usize, id: Clause
     false
 }
 
-/// Whether the id is that at the place.
+/// Whether the row has the id at the place.
 fn is_at(row: &[ClauseId], place: usize, id: ClauseId) -> bool
     ensures { OnTrue result (In id row.now) }
 {
@@ -94,8 +97,8 @@ fn is_at(row: &[ClauseId], place: usize, id: ClauseId) -> bool
     row[place] == id
 }
 
-/// The numbers, other than the spent one, that are clauses by themselves; none where there is one other clause, whose
-/// unions are tested anyway.
+/// The numbers other than the spent one that are clauses by themselves. None are looked for if
+/// there is only one other clause: its unions are tested anyway.
 fn singles_for(
     alloc: Global,
     pool: &Pool,
@@ -104,7 +107,8 @@ fn singles_for(
     others: usize,
 ) -> Result<Vec<u32>, AllocError>
     requires { OfPool pool.now row.now }
-    ensures { IfOk result (λ singles. (n : ℕ) → In n singles.items → In (n ∷ []) (apart_from spent (clauses_at pool.now row.now))) }
+    ensures { IfOk result (λ singles. (n : ℕ) → In n singles.items →
+        In (n ∷ []) (apart_from spent (clauses_at pool.now row.now))) }
 {
     if others == 1 {
         return Ok(Vec::new(alloc));
@@ -112,7 +116,8 @@ fn singles_for(
     singles_of(alloc, pool, spent, row)
 }
 
-/// The numbers, other than the spent one, that are clauses by themselves; they ascend as the row is in order.
+/// The numbers other than the spent one that are clauses by themselves; they ascend, since the row
+/// is in order.
 fn singles_of(
     alloc: Global,
     pool: &Pool,
@@ -120,7 +125,8 @@ fn singles_of(
     row: &[ClauseId],
 ) -> Result<Vec<u32>, AllocError>
     requires { OfPool pool.now row.now }
-    ensures { IfOk result (λ singles. (n : ℕ) → In n singles.items → In (n ∷ []) (apart_from spent (clauses_at pool.now row.now))) }
+    ensures { IfOk result (λ singles. (n : ℕ) → In n singles.items →
+        In (n ∷ []) (apart_from spent (clauses_at pool.now row.now))) }
 {
     let mut singles = Vec::new(alloc);
     for id in row {
@@ -133,7 +139,7 @@ fn singles_of(
     Ok(singles)
 }
 
-/// The literal of a clause that has one alone.
+/// The only literal of a clause that has just one.
 fn single(clause: &[u32]) -> Option<u32>
     ensures { IfSome result (λ literal. clause.now ≡ literal ∷ []) }
 {
@@ -152,7 +158,8 @@ fn useful_beside(
     others: &[ClauseId],
 ) -> Result<Vec<ClauseId>, AllocError>
     requires { OfPool pool.now others.now }
-    ensures { IfOk result (λ useful. Useful pool.now user (HoldsOneOf singles.now) others.now useful.items) }
+    ensures { IfOk result (λ useful.
+        Useful pool.now user (HoldsOneOf singles.now) others.now useful.items) }
 {
     let mut useful = Vec::with_capacity(alloc, others.len())?;
     for id in others {

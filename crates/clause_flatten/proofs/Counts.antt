@@ -1,11 +1,11 @@
 -- How many clauses a row has, and at most once a package is taken out.
-use Rattle.std.proofs.Common.{◌≡◌, ℕ, zero, suc, ◌<◌, ◌≤◌, ◌+◌, ◌*◌, Bool, true, false, not, ◌||◌, cond, List, [], ◌∷◌, length, map, take, filter, refl, ◌∙◌, ap, arith}
+use Rattle.std.proofs.Common.{◌≡◌, ℕ, suc, ◌<◌, ◌≤◌, ◌+◌, ◌*◌, Bool, true, false, not, ◌||◌, cond, ltb, List, [], ◌∷◌, length, map, take, filter, refl, ◌∙◌, ap, arith, Option, Some, None}
 use Rattle.std.proofs.{lemmas.List.{length-append, length-map}, lemmas.List.Filters.{length-filter_both}, lemmas.Nat.{mul-le}, Math.Nat.{suc-mul}}
 use Rattle.std.specs.List.{list_all}
 use Rattle.listed.proofs.Lists.{filter_short}
 use Rattle.listed.specs.Lists.{has, is_inside}
 use Rattle.clause_pool.specs.Clauses.{apart_from, comes_before, insert_clause, in_row_order, minimal_of}
-use Rattle.clause_flatten.specs.Holding.{clauses_with, most_clauses}
+use Rattle.clause_flatten.specs.Holding.{clauses_with, most_clauses, over_limit}
 use Rattle.clause_families.specs.Unions.{all_unions_for, clause_without, substituted, union_of, unions_for}
 use Rattle.clause_families.proofs.Families.{At, filter_kept, filter_left}
 
@@ -62,18 +62,6 @@ with_few q cs = filter_short (λ c. has c q) cs
 pub product_small : (m n : ℕ) → m < 4294967296 → n < 4294967296 → m * n ≤ 18446744065119617025
 product_small m n l k = mul-le m n 4294967295 4294967295 (omega arith) (omega arith)
 
--- the first items have no more that pass than all
-pub front_fewer : (p : List ℕ → Bool) (n : ℕ) (xs : List (List ℕ)) → length (filter p (take n xs)) ≤ length (filter p xs)
-front_fewer p zero [] = omega arith
-front_fewer p zero (x ∷ xs) = omega arith
-front_fewer p (suc n) [] = omega arith
-front_fewer p (suc n) (x ∷ xs) = pick (p x) (front_fewer p n xs)
-  where
-    pick : (b : Bool) → length (filter p (take n xs)) ≤ length (filter p xs) →
-        length (cond b (x ∷ filter p (take n xs)) (filter p (take n xs))) ≤ length (cond b (x ∷ filter p xs) (filter p xs))
-    pick true l = omega arith
-    pick false l = l
-
 -- one more item looked at
 pub one_more : (p : List ℕ → Bool) (xs : List (List ℕ)) (i : ℕ) (clause : List ℕ) → At xs i clause → p clause ≡ true →
     length (filter p (take (i + 1) xs)) ≡ length (filter p (take i xs)) + 1
@@ -82,3 +70,18 @@ one_more p xs i clause a h = ap length (filter_kept p xs i clause a h) ∙ lengt
 pub none_more : (p : List ℕ → Bool) (xs : List (List ℕ)) (i : ℕ) (clause : List ℕ) → At xs i clause → p clause ≡ false →
     length (filter p (take (i + 1) xs)) ≡ length (filter p (take i xs))
 none_more p xs i clause a h = ap length (filter_left p xs i clause a h)
+
+-- the count of a row over the limit
+pub some_over_limit : (limit n k : ℕ) → Some k ≡ over_limit limit n → (ltb limit n ≡ true) × (k ≡ n)
+some_over_limit limit n k e = pick (ltb limit n) refl e
+  where
+    pick : (b : Bool) → ltb limit n ≡ b → Some k ≡ cond b (Some n) None → (ltb limit n ≡ true) × (k ≡ n)
+    pick true h f = (h, cc)
+    pick false h f = absurd (let z : ⊥ = cc in z)
+
+pub none_over_limit : (limit n : ℕ) → None ≡ over_limit limit n → ltb limit n ≡ false
+none_over_limit limit n e = pick (ltb limit n) refl e
+  where
+    pick : (b : Bool) → ltb limit n ≡ b → ◌≡◌ {A = Option ℕ} None (cond b (Some n) None) → ltb limit n ≡ false
+    pick true h f = absurd (let z : ⊥ = cc in z)
+    pick false h f = h

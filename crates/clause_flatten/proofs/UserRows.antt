@@ -1,12 +1,12 @@
 -- Rows that do not name a package stay when it is taken out, so only those of its users are looked at.
-use Rattle.std.proofs.Common.{◌≡◌, ℕ, ◌<◌, ◌≤◌, ◌+◌, Bool, true, false, ltb, cond, List, [], ◌∷◌, length, get_or, inl, inr, refl, sym, ◌∙◌, ap, subst, arith, filter, Some, None, zero-le}
+use Rattle.std.proofs.Common.{◌≡◌, ℕ, ◌<◌, ◌≤◌, ◌+◌, Bool, true, false, ltb, cond, List, [], ◌∷◌, length, get_or, inl, inr, refl, sym, ◌∙◌, ap, subst, arith, filter, Option, Some, None, zero-le}
 use Rattle.std.proofs.lemmas.Bool.{both_ways, cases_Bool, cases_eq, cases_lt, cond-true, cond-false, false_from_ne_true, le-ltb}
-use Rattle.std.specs.List.{find, list_any}
+use Rattle.std.specs.{List.{find, list_any}, Option.{is_some, option_map}}
 use Rattle.std.proofs.lemmas.List as lists
 use Rattle.clause_pool.specs.{Interned.{Interned, clauses_at}, Clauses.{in_row_order}}
 use Rattle.row_book.specs.{Book.{listed_for}, Numbers.{numbers}, Holders.{is_user, users_in, ListsFit}}
 use Rattle.listed.specs.Lists.{In, has, here, there}
-use Rattle.listed.proofs.Lists.{In_has, any_cases, any_from, filter_cases, find_none, has_not}
+use Rattle.listed.proofs.Lists.{In_has, any_cases, any_from, filter_cases, find_none, find_some, has_not, In_at}
 use Rattle.row_book.proofs.Numbers.{numbers_from, numbers_parts}
 use Rattle.clause_flatten.specs.{Ready.{ListsTidy, table_of}, Substitution.{table_passes, table_row, table_without, length_in}}
 use Rattle.clause_flatten.specs.{TakingOut.{counted_anew, is_over}, Waiting.{Filed}}
@@ -87,6 +87,15 @@ module _ (pool : Interned) (rows : List (List ℕ)) (q : ℕ) (q_in : q < length
       ∙ false_from_ne_true (list_any (λ p. ltb limit (length_in new p)) (numbers (length rows) 0)) (λ t.
       let w : (p : ℕ) × In p (numbers (length rows) 0) × (ltb limit (length_in new p) ≡ true) = any_cases (λ p. ltb limit (length_in new p)) (numbers (length rows) 0) t in
       both_ways (ltb limit (length_in new w.0)) (find_none (is_over new limit) (numbers (length rows) 0) none w.0 w.1) w.2)
+
+  -- a user is found over the limit where some row is
+  pub found_passes : {A : Type 0} (f : A → ℕ) (over : Option A) → ListsFit pool rows → ListsTidy pool rows → (limit : ℕ) → ((p : ℕ) → p < length rows → length_in (table_of pool rows) p ≤ limit) →
+      option_map f over ≡ find (is_over (table_without q (table_of pool rows)) limit) users → is_some over ≡ table_passes limit (table_without q (table_of pool rows))
+  found_passes f (Some x) fit tidy limit within e =
+      let w : In (f x) users × (is_over (table_without q (table_of pool rows)) limit (f x) ≡ true) = find_some (is_over (table_without q (table_of pool rows)) limit) users (f x) (sym e) in
+      sym (table_over limit (f x) w.0 w.1)
+  found_passes f None fit tidy limit within e =
+      sym (table_within fit tidy limit within (λ k l. find_none (is_over (table_without q (table_of pool rows)) limit) users (sym e) (get_or users k 0) (In_at users k 0 l)))
 
   pub filed_after : ListsFit pool rows → ListsTidy pool rows → (w : List ℕ) (may : ℕ → Bool) (new : List (List (List ℕ))) → new ≡ table_without q (table_of pool rows) →
       Filed w may (counted_anew (length_in (table_of pool rows)) new users) → Filed w may (length_in (table_without q (table_of pool rows)))

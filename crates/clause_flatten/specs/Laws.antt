@@ -10,18 +10,18 @@ abbrev pub SupportGrows : Type 0
 SupportGrows = (R : Repository) (V : NumSet) (p : ℕ) (X Y : NumSet) →
     Within X Y → Support R V p X → Support R V p Y
 
--- a set within V supports p exactly where it hits each clause of the row of p over V
+-- a set within V supports p exactly if it hits each clause of the row of p over V
 abbrev pub RowTells : Type 0
 RowTells = (R : Repository) (V : NumSet) (p : ℕ) (rows : List (List ℕ)) →
     OfPackages R V → IsRow R V p rows →
     (X : NumSet) → Within X V → (Support R V p X ↔ HitsAll X rows)
 
--- X, and p where it is in V
+-- X, and p if it is in V
 abbrev pub with_user : NumSet → ℕ → NumSet → NumSet
 with_user V p X = cond (V p) (plus X p) X
 
--- one step: when q is taken out of V, X supports p exactly where it did before, or where it did
--- with q put in and supports q before, with p put in where p is in V
+-- X supports p over V without q exactly if one of two things holds over V. Either X supports p, or
+-- X with q supports p and X, with p if p is in V, supports q
 abbrev pub OneStep : Type 0
 OneStep = (R : Repository) (V : NumSet) (p q : ℕ) (X : NumSet) →
     p < length R.clauses → q < length R.clauses → V q ≡ true →
@@ -34,7 +34,7 @@ Substitutes = (R : Repository) (V : NumSet) (p q : ℕ) (A B : List (List ℕ)) 
     OfPackages R V → p < length R.clauses → V q ≡ true → p ≢ q →
     IsRow R V p A → IsRow R V q B → IsRow R (without V q) p (substituted p q A B)
 
--- and the row of q stays as it is
+-- the row of q stays as it is when q is taken out
 abbrev pub OwnRowStays : Type 0
 OwnRowStays = (R : Repository) (V : NumSet) (q : ℕ) (B : List (List ℕ)) →
     IsRow R V q B → IsRow R (without V q) q B
@@ -54,13 +54,13 @@ pub record FlattenedBy (R : Repository) (V : NumSet) (F : Repository) : Type 0 w
   pub rows : (p : ℕ) → p < length R.clauses → IsRow R V p (clauses_of F p)
   pub conflicts : F.conflicts ≡ R.conflicts
 
--- each set is co-installable with the rows exactly where it is with the clauses
+-- a set is co-installable with the rows exactly if it is with the clauses
 abbrev pub KeepsEverySet : Type 0
 KeepsEverySet = (R : Repository) (V : NumSet) (F : Repository) →
     OfPackages R V → HoldsConflicts R V → FlattenedBy R V F →
     (S : NumSet) → (Coinst R S ↔ Coinst F S)
 
--- packages without conflicts such that each clause of each of them is hit by I and them together
+-- J has packages without conflicts, and each of their clauses is hit by I or J
 pub record Served (R : Repository) (I J : NumSet) : Type 0 where
   pub packages : (n : ℕ) → Is J n → n < length R.clauses
   pub free : (n m : ℕ) → Is J n → (against R n m ≡ false) × (against R m n ≡ false)
@@ -71,7 +71,7 @@ pub record Lifts (R : Repository) (I J : NumSet) : Type 0 where
   pub served : Served R I J
   pub greatest : (K : NumSet) → Served R I K → Within K J
 
--- a set that is healthy with the rows is healthy with the clauses once that J is put in
+-- a set that is healthy with the rows is healthy with the clauses once that J is added
 abbrev pub LiftIsHealthy : Type 0
 LiftIsHealthy = (R : Repository) (V : NumSet) (F : Repository) →
     OfPackages R V → HoldsConflicts R V → FlattenedBy R V F →

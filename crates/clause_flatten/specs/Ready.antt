@@ -12,9 +12,10 @@ table_of pool rows = map (clauses_at pool) rows
 -- no clause of a row holds the row's own package, or includes another clause of that row
 pub record ListsTidy (pool : Interned) (rows : List (List ℕ)) : Type 0 where
   pub apart : (p : ℕ) (c : List ℕ) → In c (clauses_at pool (listed_for rows p)) → In p c → ⊥
-  pub minimal : (p : ℕ) (c d : List ℕ) → In c (clauses_at pool (listed_for rows p)) → In d (clauses_at pool (listed_for rows p)) → Inside c d → c ≡ d
+  pub minimal : (p : ℕ) (c d : List ℕ) → In c (clauses_at pool (listed_for rows p)) →
+      In d (clauses_at pool (listed_for rows p)) → Inside c d → c ≡ d
 
--- they are of clauses of the pool, each is tidy, and the table tells which of them have which clauses
+-- the rows are tidy and of clauses of the pool, and the table says which clauses each has
 pub record AreReady (pool : Interned) (rows : List (List ℕ)) (holders : Holders) : Type 0 where
   pub fit : ListsFit pool rows
   pub tidy : ListsTidy pool rows

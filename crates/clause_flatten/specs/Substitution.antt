@@ -12,16 +12,16 @@ table_row t p = slice_index_or t p []
 -- the table when q is taken out: each row but that of q is substituted
 unfoldable pub table_without : ℕ → List (List (List ℕ)) → List (List (List ℕ))
 table_without q t =
-    map (λ p. cond (eqb p q) (table_row t q) (in_row_order (substituted p q (table_row t p) (table_row t q))))
-    (numbers (length t) 0)
+    map (λ p. cond (eqb p q) (table_row t q)
+    (in_row_order (substituted p q (table_row t p) (table_row t q)))) (numbers (length t) 0)
 
--- the table where the row of p alone is substituted
+-- the table in which only the row of p is substituted
 abbrev pub table_turned : ℕ → ℕ → List (List (List ℕ)) → List (List (List ℕ))
 table_turned p q t = slice_set t p (in_row_order (substituted p q (table_row t p) (table_row t q)))
 
 -- A whole elimination with its table of rows.
 
--- a stage of it: the packages that are left, those of them that are held, and the rows of all packages
+-- a stage: the packages that are left, those of them that are held, and the rows of all packages
 pub record Stage : Type 0 where
   pub remaining : Remaining
   pub table : List (List (List ℕ))
@@ -30,7 +30,7 @@ pub record Stage : Type 0 where
 abbrev pub length_in : List (List (List ℕ)) → ℕ → ℕ
 length_in t q = length (table_row t q)
 
--- the next package to be taken out, as the table tells
+-- the next package to be taken out, by the table
 unfoldable pub choice_in : Repository → Stage → Option ℕ
 choice_in R s = soonest (length_in s.table) (may_go R s.remaining) (packages R)
 
@@ -38,7 +38,7 @@ choice_in R s = soonest (length_in s.table) (may_go R s.remaining) (packages R)
 unfoldable pub table_passes : ℕ → List (List (List ℕ)) → Bool
 table_passes limit t = list_any (λ p. ltb limit (length_in t p)) (numbers (length t) 0)
 
--- the stage where the package is taken out, and where it is held
+-- the stage after the package is taken out, and after it is held
 abbrev pub stage_without : Stage → ℕ → Stage
 stage_without s q = record {
   remaining = record { left = without s.remaining.left q; held = s.remaining.held };
@@ -53,7 +53,9 @@ stage_holding s q = record {
 
 abbrev pub next_stage : ℕ → Bool → Stage → Option ℕ → Stage
 next_stage limit hold s None = s
-next_stage limit hold s (Some q) = cond (hold && table_passes limit (table_without q s.table)) (stage_holding s q) (stage_without s q)
+next_stage limit hold s (Some q) =
+    cond (hold && table_passes limit (table_without q s.table))
+    (stage_holding s q) (stage_without s q)
 
 -- before any step each row has the minimal clauses of the package that do not hold it
 unfoldable pub first_table : Repository → List (List (List ℕ))
@@ -61,9 +63,12 @@ first_table R = map (λ p. in_row_order (minimal_of (apart_from p (clauses_of R 
 
 unfoldable pub stage_after : ℕ → Bool → Repository → ℕ → Stage
 stage_after limit hold R zero = record { remaining = none_gone R; table = first_table R }
-stage_after limit hold R (suc i) = next_stage limit hold (stage_after limit hold R i) (choice_in R (stage_after limit hold R i))
+stage_after limit hold R (suc i) =
+    next_stage limit hold (stage_after limit hold R i) (choice_in R (stage_after limit hold R i))
 
--- where a row of some stage has more clauses than the limit allows; with hold, of the first stage alone
+-- the first stage with a row of more clauses than the limit allows, and that row; with hold only
+-- the first stage is tried
 unfoldable pub passes_by_stages : ℕ → Bool → Repository → Option Passed
 passes_by_stages limit hold R =
-    first_some (map (λ i. passed_by (length_in (stage_after limit hold R i).table) (packages R) limit i) (stages_tried hold R))
+    first_some (map (λ i. passed_by (length_in (stage_after limit hold R i).table)
+    (packages R) limit i) (stages_tried hold R))

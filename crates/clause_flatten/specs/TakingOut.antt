@@ -9,7 +9,7 @@ use Rattle.clause_flatten.specs.Substitution.{length_in}
 abbrev pub is_over : List (List (List ℕ)) → ℕ → ℕ → Bool
 is_over t limit q = ltb limit (length_in t q)
 
--- the counts of the table for the packages of the list, and the old ones for the others
+-- the counts of the table for the packages of the list, and the given ones for the others
 abbrev pub counted_anew : (ℕ → ℕ) → List (List (List ℕ)) → List ℕ → ℕ → ℕ
 counted_anew count t users q = cond (has users q) (length_in t q) (count q)
 

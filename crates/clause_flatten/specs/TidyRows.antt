@@ -1,5 +1,5 @@
 -- for the bodies of this crate alone
--- Rows before any package is taken out: of the clauses of a package those that do not hold it, and of these the minimal ones.
+-- Rows before any package is taken out: the minimal clauses of a package that do not hold it.
 use Rattle.std.specs.Prelude.{ℕ, Bool, true, false, List, [], ◌∷◌, length, map}
 use Rattle.clause_pool.specs.Clauses.{apart_from, minimal_of, in_row_order}
 use Rattle.row_book.specs.Numbers.{numbers}

@@ -3,7 +3,7 @@
 use Rattle.std.specs.Prelude.{◌≡◌, ℕ, ◌<◌, ◌≤◌, ◌⊎◌, true, false, eqb, cond, List, slice_index_or}
 use Rattle.row_book.specs.Sets.{NumSet}
 
--- what stands at a package that does not wait; it is more than any number of clauses
+-- the number at a package that does not wait; it is more than any number of clauses
 abbrev pub never : ℕ
 never = 18446744073709551615
 
@@ -17,7 +17,8 @@ pub record Filed (turns : List ℕ) (may : NumSet) (count : ℕ → ℕ) : Type 
   pub few : (q : ℕ) → may q ≡ true → count q < never
   pub others : (q : ℕ) → may q ≡ false → turn turns q ≡ never
 
--- the package is one of the set, and none of the set has a lower count, or the same one and a lesser number
+-- the package is one of the set, and none of the set has a lower count, or the same one and a
+-- lesser number
 pub record IsFirst (may : NumSet) (count : ℕ → ℕ) (q : ℕ) : Type 0 where
   pub waits : may q ≡ true
   pub least : (r : ℕ) → may r ≡ true → (count q < count r) ⊎ ((count q ≡ count r) × (q ≤ r))

@@ -12,9 +12,8 @@ use row_book::{ClauseTable, IdList, clause_holds};
 use std::alloc::{AllocError, Global};
 use std::mem;
 
-/// Takes a package out of the rows of its users, the last of them first, and so out of all rows: each clause that holds it is
-/// replaced by its unions with the clauses of the package's own row, which stays.
-/// The table of clauses tells of the rows, also where no memory is found.
+/// Takes a package out of the rows of its users, and so out of all rows. The table of clauses
+/// describes the rows even if no memory is found.
 pub(crate) fn change_rows(
     alloc: Global,
     pool: &mut Pool,
@@ -27,18 +26,20 @@ pub(crate) fn change_rows(
     requires ready { AreReady pool.old rows.old uses.old }
     requires gone { gone < length rows.old }
     requires users { users.now ≡ users_in pool.old rows.old gone }
-    ensures ok { OnOk result (table_of pool.new rows.new ≡ table_without gone (table_of pool.old rows.old)) }
+    ensures ok { OnOk result (table_of pool.new rows.new
+        ≡ table_without gone (table_of pool.old rows.old)) }
     ensures ready { AreReady pool.new rows.new uses.new }
     ensures kept { Kept pool.old pool.new }
 {
-    // The last user comes first, as in `eliminate`, so that the rows in between are told in the same way.
+    // The last user comes first, as in `eliminate`, so that both go through the same tables of
+    // rows.
     for place in (0..users.len()).rev() {
         change_row(alloc, pool, rows, uses, users[place], gone)?;
     }
     Ok(())
 }
 
-/// Takes a package out of the row of another one; where no memory is found, the rows stay as they were.
+/// Takes a package out of the row of one user; if no memory is found, the rows stay as they were.
 fn change_row(
     alloc: Global,
     pool: &mut Pool,
@@ -50,7 +51,8 @@ fn change_row(
     requires ready { AreReady pool.old rows.old uses.old }
     requires user { user < length rows.old }
     requires gone { gone < length rows.old }
-    ensures ok { OnOk result (table_of pool.new rows.new ≡ table_turned user gone (table_of pool.old rows.old)) }
+    ensures ok { OnOk result (table_of pool.new rows.new
+        ≡ table_turned user gone (table_of pool.old rows.old)) }
     ensures ready { AreReady pool.new rows.new uses.new }
     ensures kept { Kept pool.old pool.new }
 {
@@ -58,7 +60,7 @@ fn change_row(
     let others = rows[gone as usize].as_slice();
     let useful = useful_of(alloc, pool, user, gone, row, others)?;
     if useful.is_empty() {
-        // No clause comes, so the table tells of the shorter row as it is.
+        // No clause is added, so the table describes the shorter row as it is.
         let places = uses.clauses_with(gone);
         shorten(alloc, pool, &mut rows[user as usize], gone, places);
         return Ok(());
@@ -69,7 +71,8 @@ fn change_row(
     Ok(())
 }
 
-/// Takes the clauses that hold a number, which are those at these places, out of a row; it takes no memory.
+/// Removes the clauses that hold a number, which are those at these places, from a row; it takes no
+/// memory.
 fn shorten(alloc: Global, pool: &Pool, row: &mut IdList, number: u32, places: &[u32])
     requires row { OfPool pool.now row.old }
     requires placed { ArePlaced pool.now number places.now row.old }
@@ -81,11 +84,13 @@ fn shorten(alloc: Global, pool: &Pool, row: &mut IdList, number: u32, places: &[
     *row = Listed::of(ids);
 }
 
-/// Leaves of the clauses those that do not hold a number, in their order. Those that do stand at these places.
+/// Keeps the clauses that do not hold a number, in their order; those that do stand at these
+/// places.
 fn drop_holders(pool: &Pool, ids: &mut Vec<ClauseId>, number: u32, places: &[u32])
     requires ids { OfPool pool.now ids.old.items }
     requires placed { ArePlaced pool.now number places.now ids.old.items }
-    ensures made { clauses_at pool.now ids.new.items ≡ apart_from number (clauses_at pool.now ids.old.items) }
+    ensures made { clauses_at pool.now ids.new.items
+        ≡ apart_from number (clauses_at pool.now ids.old.items) }
     ensures part { (id : ℕ) → In id ids.new.items → In id ids.old.items }
 {
     let mut kept = 0;

@@ -2,13 +2,13 @@
 
 ghost use Rattle.clause_flatten.specs.FlatLaws.{CoreIsReached, CoreStays, FlatByStages, FlatKeeps, HeldIsUsed, HoldStaysWithin, NextIsLeast, OneRow, PassesByStages, StagesRun, TableStep, WithoutHold};
 
-/// Each set is co-installable in the flattened repository exactly where it is in the repository.
+/// A set is co-installable in the flattened repository exactly if it is in the repository.
 pub fn flat_keeps()
     ensures { FlatKeeps }
 {}
 
-/// The package that is taken out next is the one without conflicts, and not held, whose row has the fewest clauses,
-/// and of these the one of least number.
+/// The package that is taken out next is the one without conflicts, and not held, whose row has the
+/// fewest clauses, and of these the one of least number.
 pub fn next_is_least()
     ensures { NextIsLeast }
 {}
@@ -18,7 +18,7 @@ pub fn core_stays()
     ensures { CoreStays }
 {}
 
-/// A held package has no conflict, and stands in some clause.
+/// A held package has no conflict, and some clause names it.
 pub fn held_is_used()
     ensures { HeldIsUsed }
 {}
@@ -28,12 +28,12 @@ pub fn hold_stays_within()
     ensures { HoldStaysWithin }
 {}
 
-/// Without hold no package is held, and the same packages are left at whatever limit.
+/// Without hold no package is held, and the limit does not change which packages are left.
 pub fn without_hold()
     ensures { WithoutHold }
 {}
 
-/// The core is what is left where no package is taken out any more.
+/// The core is what is left once no package can be taken out any more.
 pub fn core_is_reached()
     ensures { CoreIsReached }
 {}
@@ -48,8 +48,8 @@ pub fn table_step()
     ensures { TableStep }
 {}
 
-/// An elimination that only looks at its table of rows takes out and holds the same packages, and has the
-/// rows over those that are left, at each stage.
+/// An elimination that only looks at its table of rows takes out and holds the same packages at
+/// each stage. It has the same rows over those that are left.
 pub fn stages_run()
     ensures { StagesRun }
 {}
@@ -59,7 +59,7 @@ pub fn flat_by_stages()
     ensures { FlatByStages }
 {}
 
-/// The clause limit is passed where the tables of the stages pass it.
+/// The clause limit is passed at the same stage and by the same row as in the tables of the stages.
 pub fn passes_by_stages()
     ensures { PassesByStages }
 {}

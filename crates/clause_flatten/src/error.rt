@@ -11,7 +11,7 @@ pub enum FlatError {
     /// A row had more clauses than the limit allows.
     #[error("gone {gone}, package {package}, clauses {count}")]
     Limit {
-        /// How many packages were gone.
+        /// How many packages were taken out by then.
         gone: u32,
         /// The package of the row.
         package: u32,

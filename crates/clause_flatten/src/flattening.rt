@@ -1,6 +1,7 @@
-//! Flattening of a book.
+//! Flattens a book.
 //!
-//! Until the end a row is a list of the ids of its clauses, in no pool: one that is rewritten many times would leave as many rows there.
+//! Until the end a row is a list of the ids of its clauses, outside the pool: one that is rewritten
+//! many times would leave each of its versions there.
 ghost use Rattle.std.specs.{Prelude.{◌≡◌, ◌<◌, ◌≤◌, ℕ, ◌&&◌, ltb, false, None, Some, IfOk, IfErr, OnOk, length, map, replicate, slice_set}, List.{filter}};
 ghost use Rattle.clause_pool.specs.{Interned.{clauses_at, row_at, Interned, Kept, OfPool}, Lists.{InOrder}};
 ghost use Rattle.row_book.specs.{Book.{repository_of, AreConflicts, RowsFit, Sound}, Numbers.{numbers}, Flags.{flag}, Flattening.{flat, held_of, passes}};
@@ -20,7 +21,8 @@ use std::alloc::{AllocError, Global};
 /// The packages without conflicts, each filed under the number of clauses of its row.
 fn waiting_in(alloc: Global, rows: &[IdList], book: &Book) -> Result<Waiting, AllocError>
     requires { length rows.now ≡ length book.now.rows }
-    ensures { IfOk result (λ waiting. (pool : Interned) → Filed waiting (λ q. ltb q (length book.now.rows) && is_free book.now.conflicts q)
+    ensures { IfOk result (λ waiting. (pool : Interned) →
+        Filed waiting (λ q. ltb q (length book.now.rows) && is_free book.now.conflicts q)
         (length_in (table_of pool rows.now))) }
 {
     let mut waiting = Waiting::with_room(alloc, book.size())?;
@@ -32,15 +34,16 @@ fn waiting_in(alloc: Global, rows: &[IdList], book: &Book) -> Result<Waiting, Al
     Ok(waiting)
 }
 
-/// How many clauses a row may have, and whether a package is held whose elimination would make a row pass that.
+/// How many clauses a row may have, and whether a package stays if taking it out would make a row
+/// pass that.
 #[derive(Clone, Copy)]
 struct Rule {
     limit: u32,
     hold: bool,
 }
 
-/// Takes the packages that wait out of the rows, one after another, until none is left that waits, and answers which of
-/// them are held.
+/// Takes the packages that wait out of the rows, one after another, until none waits, and returns
+/// which of them are held.
 fn take_all_out(
     alloc: Global,
     pool: &mut Pool,
@@ -51,19 +54,27 @@ fn take_all_out(
     rule: Rule,
 ) -> Result<Vec<bool>, FlatError>
     requires sound { Sound pool.old book.now }
-    requires first { table_of pool.old rows.old ≡ tidied_table (map (row_at pool.old) book.now.rows) }
+    requires first { table_of pool.old rows.old
+        ≡ tidied_table (map (row_at pool.old) book.now.rows) }
     requires ready { AreReady pool.old rows.old uses.old }
-    requires waiting { Filed waiting.old (λ q. ltb q (length book.now.rows) && is_free book.now.conflicts q)
+    requires waiting { Filed waiting.old (λ q.
+        ltb q (length book.now.rows) && is_free book.now.conflicts q)
         (length_in (table_of pool.old rows.old)) }
-    requires within { (p : ℕ) → p < length rows.old → length_in (table_of pool.old rows.old) p ≤ rule.limit }
-    ensures flat { OnOk result (◌≡◌ {A = Repository} (record { clauses = table_of pool.new rows.new; conflicts = book.now.conflicts })
+    requires within { (p : ℕ) → p < length rows.old →
+        length_in (table_of pool.old rows.old) p ≤ rule.limit }
+    ensures flat { OnOk result (◌≡◌ {A = Repository} (record {
+      clauses = table_of pool.new rows.new;
+      conflicts = book.now.conflicts;
+    })
         (flat rule.limit rule.hold (repository_of pool.old book.now))) }
     ensures held { IfOk result (λ held. filter (flag held.items) (numbers (length held.items) 0)
         ≡ held_of rule.limit rule.hold (repository_of pool.old book.now)) }
     ensures few { IfOk result (λ held. length held.items ≡ length book.now.rows) }
     ensures fit { OnOk result (ListsFit pool.new rows.new) }
-    ensures within { OnOk result (passes rule.limit rule.hold (repository_of pool.old book.now) ≡ None) }
-    ensures passed { IfErr result (OnLimit (λ passed. passes rule.limit rule.hold (repository_of pool.old book.now) ≡ Some passed)) }
+    ensures within { OnOk result (passes rule.limit rule.hold (repository_of pool.old book.now)
+        ≡ None) }
+    ensures passed { IfErr result (OnLimit (λ passed.
+        passes rule.limit rule.hold (repository_of pool.old book.now) ≡ Some passed)) }
     ensures kept { Kept pool.old pool.new }
 {
     let mut held = none_held(alloc, book.size())?;
@@ -83,14 +94,14 @@ fn take_all_out(
     Ok(held)
 }
 
-/// So many flags, none of them up.
+/// A flag for each package, none of them up.
 fn none_held(alloc: Global, size: u32) -> Result<Vec<bool>, AllocError>
     ensures { IfOk result (λ flags. flags.items ≡ replicate size false) }
 {
     vec![in alloc; false; size as usize]
 }
 
-/// The flags with that of a number as it is told.
+/// The flags with another one for a number.
 fn with_flag(flags: Vec<bool>, number: u32, is_up: bool) -> Vec<bool>
     requires { number < length flags.items }
     ensures { result.items ≡ slice_set flags.items number is_up }
@@ -100,7 +111,7 @@ fn with_flag(flags: Vec<bool>, number: u32, is_up: bool) -> Vec<bool>
     flags
 }
 
-/// The row of clauses in order, in the pool.
+/// Puts the row of these clauses into the pool.
 fn put_row(pool: &mut Pool, clauses: &[ClauseId]) -> Result<RowId, AllocError>
     requires of_pool { OfPool pool.old clauses.now }
     requires in_order { InOrder (clauses_at pool.old clauses.now) }
@@ -111,10 +122,11 @@ fn put_row(pool: &mut Pool, clauses: &[ClauseId]) -> Result<RowId, AllocError>
     pool.intern_row(clauses)
 }
 
-/// The rows of these clauses, in the pool.
+/// Puts the rows of these clauses into the pool.
 fn put_rows(alloc: Global, pool: &mut Pool, lists: &[IdList]) -> Result<Vec<RowId>, AllocError>
     requires { ListsFit pool.old lists.now }
-    ensures rows { IfOk result (λ rows. map (row_at pool.new) rows.items ≡ table_of pool.old lists.now) }
+    ensures rows { IfOk result (λ rows. map (row_at pool.new) rows.items
+        ≡ table_of pool.old lists.now) }
     ensures fit { IfOk result (λ rows. RowsFit pool.new rows.items) }
     ensures kept { Kept pool.old pool.new }
 {
@@ -135,8 +147,8 @@ pub struct Flattened {
     pub held: NumList,
 }
 
-/// Takes the packages without conflicts out of the first rows of a book, unless a row has more clauses than the limit allows before
-/// any step, and answers which packages are held.
+/// Takes the packages without conflicts out of the first rows of a book, and returns which are
+/// held. It fails if a row passes the limit before any step.
 fn eliminate_all(
     alloc: Global,
     pool: &mut Pool,
@@ -145,18 +157,24 @@ fn eliminate_all(
     rule: Rule,
 ) -> Result<Vec<bool>, FlatError>
     requires sound { Sound pool.old book.now }
-    requires first { table_of pool.old rows.old ≡ tidied_table (map (row_at pool.old) book.now.rows) }
+    requires first { table_of pool.old rows.old
+        ≡ tidied_table (map (row_at pool.old) book.now.rows) }
     requires fit { ListsFit pool.old rows.old }
     requires tidy { ListsTidy pool.old rows.old }
     requires count { length rows.old ≡ length book.now.rows }
-    ensures flat { OnOk result (◌≡◌ {A = Repository} (record { clauses = table_of pool.new rows.new; conflicts = book.now.conflicts })
+    ensures flat { OnOk result (◌≡◌ {A = Repository} (record {
+      clauses = table_of pool.new rows.new;
+      conflicts = book.now.conflicts;
+    })
         (flat rule.limit rule.hold (repository_of pool.old book.now))) }
     ensures held { IfOk result (λ held. filter (flag held.items) (numbers (length held.items) 0)
         ≡ held_of rule.limit rule.hold (repository_of pool.old book.now)) }
     ensures few { IfOk result (λ held. length held.items ≡ length book.now.rows) }
     ensures fit { OnOk result (ListsFit pool.new rows.new) }
-    ensures within { OnOk result (passes rule.limit rule.hold (repository_of pool.old book.now) ≡ None) }
-    ensures passed { IfErr result (OnLimit (λ passed. passes rule.limit rule.hold (repository_of pool.old book.now) ≡ Some passed)) }
+    ensures within { OnOk result (passes rule.limit rule.hold (repository_of pool.old book.now)
+        ≡ None) }
+    ensures passed { IfErr result (OnLimit (λ passed.
+        passes rule.limit rule.hold (repository_of pool.old book.now) ≡ Some passed)) }
     ensures kept { Kept pool.old pool.new }
 {
     if let Some(number) = least_over(rows, rule.limit) {
@@ -185,9 +203,11 @@ fn put_together(
     requires fit { ListsFit pool.old lists.now }
     requires count { length lists.now ≡ length book.now.rows }
     requires few { length flags.now ≡ length book.now.rows }
-    ensures rows { IfOk result (λ made. map (row_at pool.new) made.book.rows ≡ table_of pool.old lists.now) }
+    ensures rows { IfOk result (λ made. map (row_at pool.new) made.book.rows
+        ≡ table_of pool.old lists.now) }
     ensures conflicts { IfOk result (λ made. made.book.conflicts ≡ book.now.conflicts) }
-    ensures held { IfOk result (λ made. made.held ≡ filter (flag flags.now) (numbers (length flags.now) 0)) }
+    ensures held { IfOk result (λ made. made.held
+        ≡ filter (flag flags.now) (numbers (length flags.now) 0)) }
     ensures fit { IfOk result (λ made. RowsFit pool.new made.book.rows) }
     ensures kept { Kept pool.old pool.new }
 {
@@ -197,11 +217,10 @@ fn put_together(
     Ok(Flattened { book: made, held })
 }
 
-/// The flattened book: the packages without conflicts are taken out one after another, that with the fewest clauses first;
-/// with hold a package stays whose elimination would make a row have more clauses than the limit allows.
-///
-/// It is refused where a row has more clauses than the limit allows at some stage, with hold before any step, with the
-/// first stage and its least package. What the pool held stays.
+/// Takes the packages without conflicts out one after another, the one with the fewest clauses
+/// first; with hold a package stays if a row would otherwise pass the limit. A book is refused if a
+/// row passes the limit at any stage, or with hold before any step; the error has the first such
+/// stage and its least package.
 pub fn flatten(
     alloc: Global,
     pool: &mut Pool,
@@ -211,11 +230,14 @@ pub fn flatten(
 ) -> Result<Flattened, FlatError>
     requires sound { Sound pool.old book.now }
     requires limit { 0 < limit }
-    ensures flat { IfOk result (λ made. repository_of pool.new made.book ≡ flat limit hold (repository_of pool.old book.now)) }
-    ensures held { IfOk result (λ made. made.held ≡ held_of limit hold (repository_of pool.old book.now)) }
+    ensures flat { IfOk result (λ made. repository_of pool.new made.book
+        ≡ flat limit hold (repository_of pool.old book.now)) }
+    ensures held { IfOk result (λ made. made.held
+        ≡ held_of limit hold (repository_of pool.old book.now)) }
     ensures sound { IfOk result (λ made. Sound pool.new made.book) }
     ensures within { OnOk result (passes limit hold (repository_of pool.old book.now) ≡ None) }
-    ensures passed { IfErr result (OnLimit (λ passed. passes limit hold (repository_of pool.old book.now) ≡ Some passed)) }
+    ensures passed { IfErr result (OnLimit (λ passed.
+        passes limit hold (repository_of pool.old book.now) ≡ Some passed)) }
     ensures kept { Kept pool.old pool.new }
 {
     let mut lists = tidy_rows(alloc, pool, book.rows.as_slice())?;

@@ -1,12 +1,12 @@
 //! Numbers as the leaves of a tree, so that the first of the least of them is soon found.
 //!
-//! A count changes far more often than a package is taken, and most changes end a step or two above the leaf; sets by count
-//! would need a second structure for high counts. Of equal children the left one is tried first: that is the rule 'the least
-//! number first'.
+//! A count changes far more often than a package is taken, and most changes end a step or two above
+//! the leaf. Sets by count would need a second structure for high counts. Of equal children the
+//! left one is tried first: that is the rule 'the least number first'.
 ghost use Rattle.std.specs.Prelude.{◌≡◌, ◌≢◌, ◌<◌, ◌≤◌, ◌^◌, ℕ, length};
 ghost use Rattle.clause_flatten.specs.LeastTree.{node, IsTree, IsFirstLeast};
 
-/// How many levels a tree with that many leaves has above them.
+/// How many levels a tree needs above these leaves.
 pub(crate) fn depth_for(leaves: u32) -> u32
     ensures few { result ≤ 32 }
     ensures room { leaves ≤ 2 ^ result }
@@ -19,7 +19,8 @@ pub(crate) fn depth_for(leaves: u32) -> u32
     32
 }
 
-/// Puts a number at the place of a leaf, and above it up to the first node that stays as it is.
+/// Puts a number at the place of a leaf, and mends the nodes above it up to the first that stays as
+/// it is.
 pub(crate) fn put_leaf(nodes: &mut [u64], leaves: usize, leaf: usize, number: u64)
     requires tree { IsTree nodes.old leaves }
     requires low { leaves ≤ leaf }

@@ -1,7 +1,9 @@
-//! Flattening: packages without conflicts are taken out one after another, and the clauses of each
-//! package are told in terms of those that are left. With hold a package stays where a row would pass the
-//! clause limit without it. Every set of packages stays co-installable or not: the functions of
-//! `elimination` and `support` do nothing, the contract of each is one law.
+//! Flattening. Packages without conflicts are taken out one after another, and the clauses of each
+//! package are put in terms of those that are left. With hold a package stays if a row would pass
+//! the clause limit without it.
+//!
+//! Every set of packages stays co-installable or not. The functions of `elimination` and `support`
+//! do nothing: the contract of each is one law.
 #![tactic(auto)]
 
 mod changing;

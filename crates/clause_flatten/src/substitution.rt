@@ -11,10 +11,9 @@ use clause_pool::{Pool, RowId};
 use row_book::UseTable;
 use std::alloc::{AllocError, Global};
 
-/// Takes a package out of the rows: each clause that holds it is replaced by its unions with the clauses of the package's own row, which stays.
-///
-/// The table tells which packages name which in these rows, and does so afterwards. What the pool held stays. Where no
-/// memory is found, each row is the old or the new one.
+/// Takes a package out of the rows: each clause that holds it is replaced by its unions with the
+/// clauses of the package's own row, which stays. If no memory is found, each row is the old or the
+/// new one.
 pub fn eliminate(
     alloc: Global,
     pool: &mut Pool,
@@ -27,9 +26,11 @@ pub fn eliminate(
     requires tidy { RowsTidy pool.old rows.old }
     requires table { uses.old ≡ uses_of pool.old rows.old }
     requires gone { gone < length rows.old }
-    ensures ok { OnOk result (map (row_at pool.new) rows.new ≡ table_without gone (map (row_at pool.old) rows.old)) }
+    ensures ok { OnOk result (map (row_at pool.new) rows.new
+        ≡ table_without gone (map (row_at pool.old) rows.old)) }
     ensures each { (p : ℕ) → p < length rows.old → (row_id rows.new p ≡ row_id rows.old p)
-        ⊎ (row_at pool.new (row_id rows.new p) ≡ table_row (table_without gone (map (row_at pool.old) rows.old)) p) }
+        ⊎ (row_at pool.new (row_id rows.new p)
+        ≡ table_row (table_without gone (map (row_at pool.old) rows.old)) p) }
     ensures fit { RowsFit pool.new rows.new }
     ensures tidy { RowsTidy pool.new rows.new }
     ensures table { uses.new ≡ uses_of pool.new rows.new }
@@ -39,7 +40,7 @@ pub fn eliminate(
     eliminate_for(alloc, pool, rows, uses, users.as_slice(), gone)
 }
 
-/// The same, where the users of the package are known.
+/// As `eliminate`, for the known users of the package.
 pub(crate) fn eliminate_for(
     alloc: Global,
     pool: &mut Pool,
@@ -54,23 +55,25 @@ pub(crate) fn eliminate_for(
     requires table { uses.old ≡ uses_of pool.old rows.old }
     requires gone { gone < length rows.old }
     requires users { users.now ≡ users_of pool.old rows.old gone }
-    ensures ok { OnOk result (map (row_at pool.new) rows.new ≡ table_without gone (map (row_at pool.old) rows.old)) }
+    ensures ok { OnOk result (map (row_at pool.new) rows.new
+        ≡ table_without gone (map (row_at pool.old) rows.old)) }
     ensures each { (p : ℕ) → p < length rows.old → (row_id rows.new p ≡ row_id rows.old p)
-        ⊎ (row_at pool.new (row_id rows.new p) ≡ table_row (table_without gone (map (row_at pool.old) rows.old)) p) }
+        ⊎ (row_at pool.new (row_id rows.new p)
+        ≡ table_row (table_without gone (map (row_at pool.old) rows.old)) p) }
     ensures fit { RowsFit pool.new rows.new }
     ensures tidy { RowsTidy pool.new rows.new }
     ensures table { uses.new ≡ uses_of pool.new rows.new }
     ensures kept { Kept pool.old pool.new }
 {
-    // The last user comes first: what each leaves in the table then stands at the ends of its lists.
+    // The last user comes first: what each leaves in the table then stands at the ends of its
+    // lists.
     for place in (0..users.len()).rev() {
         replace_row(alloc, pool, rows, uses, users[place], gone)?;
     }
     Ok(())
 }
 
-/// The row of another package once a package is taken out, in the pool, whose rows stay; it fails only where no memory is
-/// found.
+/// The row of a user once a package is taken out, in the pool; it fails only if no memory is found.
 pub(crate) fn new_row(
     alloc: Global,
     pool: &mut Pool,
@@ -83,10 +86,13 @@ pub(crate) fn new_row(
     requires user { user < length rows.now }
     requires gone { gone < length rows.now }
     ensures ok { IfOk result (λ id. row_at pool.new id
-        ≡ in_row_order (substituted user gone (row_at pool.old (row_id rows.now user)) (row_at pool.old (row_id rows.now gone)))) }
+        ≡ in_row_order (substituted user gone (row_at pool.old (row_id rows.now user))
+        (row_at pool.old (row_id rows.now gone)))) }
     ensures of_pool { IfOk result (λ id. id < length pool.new.rows) }
-    ensures numbers { IfOk result (λ id. (c : List ℕ) → In c (row_at pool.new id) → (n : ℕ) → In n c → n < length rows.now) }
-    ensures stay { (p : ℕ) → p < length rows.now → row_at pool.new (row_id rows.now p) ≡ row_at pool.old (row_id rows.now p) }
+    ensures numbers { IfOk result (λ id. (c : List ℕ) → In c (row_at pool.new id) →
+        (n : ℕ) → In n c → n < length rows.now) }
+    ensures stay { (p : ℕ) → p < length rows.now →
+        row_at pool.new (row_id rows.now p) ≡ row_at pool.old (row_id rows.now p) }
     ensures fit { RowsFit pool.new rows.now }
     ensures tidy { RowsTidy pool.new rows.now }
     ensures fits { IfOk result (λ id. RowsFit pool.new (slice_set rows.now user id)) }
@@ -100,7 +106,7 @@ pub(crate) fn new_row(
     Ok(new)
 }
 
-/// Takes a package out of the row of another one; where no memory is found, the rows stay as they were.
+/// Takes a package out of the row of one user; if no memory is found, the rows stay as they were.
 fn replace_row(
     alloc: Global,
     pool: &mut Pool,
@@ -115,10 +121,12 @@ fn replace_row(
     requires user { user < length rows.old }
     requires gone { gone < length rows.old }
     ensures ok { OnOk result (row_at pool.new (row_id rows.new user)
-        ≡ in_row_order (substituted user gone (row_at pool.old (row_id rows.old user)) (row_at pool.old (row_id rows.old gone)))) }
+        ≡ in_row_order (substituted user gone (row_at pool.old (row_id rows.old user))
+        (row_at pool.old (row_id rows.old gone)))) }
     ensures err { OnErr result (rows.new ≡ rows.old) }
     ensures others { (p : ℕ) → p ≢ user → row_id rows.new p ≡ row_id rows.old p }
-    ensures stay { (p : ℕ) → p < length rows.old → p ≢ user → row_at pool.new (row_id rows.new p) ≡ row_at pool.old (row_id rows.old p) }
+    ensures stay { (p : ℕ) → p < length rows.old → p ≢ user →
+        row_at pool.new (row_id rows.new p) ≡ row_at pool.old (row_id rows.old p) }
     ensures fit { RowsFit pool.new rows.new }
     ensures tidy { RowsTidy pool.new rows.new }
     ensures table { uses.new ≡ uses_of pool.new rows.new }

@@ -8,17 +8,17 @@ pub fn support_grows()
     ensures { SupportGrows }
 {}
 
-/// A set supports a package exactly where it hits each clause of the package's row.
+/// A set supports a package exactly if it hits each clause of the package's row.
 pub fn row_tells()
     ensures { RowTells }
 {}
 
-/// What supports a package when one more package is taken out.
+/// What supports a package once one more package is taken out.
 pub fn one_step()
     ensures { OneStep }
 {}
 
-/// Substitution gives the rows when one more package is taken out.
+/// Substitution gives the rows once one more package is taken out.
 pub fn substitutes()
     ensures { Substitutes }
 {}
@@ -43,7 +43,7 @@ pub fn row_is_one()
     ensures { RowIsOne }
 {}
 
-/// Each set is co-installable with the rows exactly where it is with the clauses.
+/// A set is co-installable with the rows exactly if it is with the clauses.
 pub fn keeps_every_set()
     ensures { KeepsEverySet }
 {}
@@ -54,7 +54,7 @@ pub fn lift_is_healthy()
     ensures { LiftIsHealthy }
 {}
 
-/// A row stays as it is where none of its clauses holds the package that is taken out.
+/// A row stays as it is if none of its clauses holds the package that is taken out.
 pub fn untouched_stays()
     ensures { UntouchedStays }
 {}

@@ -1,7 +1,8 @@
 //! One step of flattening: a package is taken out.
 //!
-//! The limit is tried on the rows after the whole step, also on those of packages that are gone. Only rows that changed are
-//! looked at, ascending, so the first over the limit is the least.
+//! The limit is tried on the rows after the whole step, also on those of packages that are gone.
+//! Only rows that change are looked at, in ascending order, so the first over the limit is the
+//! least. They are counted before they are made: a row that is refused is not made.
 ghost use Rattle.std.specs.{Prelude.{◌≡◌, ◌<◌, ◌≤◌, ◌&&◌, ℕ, Bool, false, cond, Some, IfOk, IfErr, OnOk, length}, List.{find}};
 ghost use Rattle.clause_pool.specs.Interned.{Interned, Kept};
 ghost use Rattle.listed.specs.Lists.{In, Ascending};
@@ -11,7 +12,7 @@ ghost use Rattle.clause_flatten.specs.{Waiting.{never, Filed}, TakingOut.{counte
 
 use crate::changing::change_rows;
 use crate::error::FlatError;
-use crate::holding::would_pass;
+use crate::holding::{first_over, would_pass};
 use crate::waiting::Waiting;
 use clause_pool::Pool;
 use row_book::{ClauseTable, IdList};
@@ -34,23 +35,11 @@ fn is_over(rows: &[IdList], number: u32, limit: u32) -> bool
     u64::from(limit) < clauses_in(rows, number)
 }
 
-/// The first of the packages whose row has more clauses than the limit allows.
-fn first_over(rows: &[IdList], packages: &[u32], limit: u32) -> Option<u32>
-    requires { (q : ℕ) → In q packages.now → q < length rows.now }
-    ensures { (pool : Interned) → result ≡ find (is_over (table_of pool rows.now) limit) packages.now }
-{
-    for number in packages {
-        if is_over(rows, *number, limit) {
-            return Some(*number);
-        }
-    }
-    None
-}
-
 /// The least package whose row has more clauses than the limit allows.
 pub(crate) fn least_over(rows: &[IdList], limit: u32) -> Option<u32>
     requires { length rows.now < u32.MAX }
-    ensures { (pool : Interned) → result ≡ find (is_over (table_of pool rows.now) limit) (numbers (length rows.now) 0) }
+    ensures { (pool : Interned) →
+        result ≡ find (is_over (table_of pool rows.now) limit) (numbers (length rows.now) 0) }
 {
     for number in 0..rows.len() as u32 {
         if is_over(rows, number, limit) {
@@ -60,7 +49,7 @@ pub(crate) fn least_over(rows: &[IdList], limit: u32) -> Option<u32>
     None
 }
 
-/// Files the packages that wait under the numbers of clauses of their rows.
+/// Files those of the users that wait under the numbers of clauses of their rows.
 fn file_users(rows: &[IdList], users: &[u32], waiting: &mut Waiting)
     requires { (q : ℕ) → In q users.now → q < length rows.now }
     ensures { (pool : Interned) (may : ℕ → Bool) (count : ℕ → ℕ) → Filed waiting.old may count →
@@ -76,16 +65,16 @@ fn file_users(rows: &[IdList], users: &[u32], waiting: &mut Waiting)
 pub(crate) struct Elimination {
     /// The package that is taken out.
     pub(crate) next: u32,
-    /// How many packages are gone with this one.
+    /// How many packages are gone, this one among them.
     pub(crate) gone: u32,
     /// How many clauses a row may have.
     pub(crate) limit: u32,
-    /// Whether the package is held where a row would have more.
+    /// Whether the package is held if a row would have more.
     pub(crate) hold: bool,
 }
 
-/// Takes a package that waits no longer out of the rows. With hold, if a row would then pass the limit, the package is held and the
-/// rows stay. Answers whether it is held.
+/// Takes a package that waits no longer out of the rows. With hold, if a row would then pass the
+/// limit, the package is held, the rows stay, and true is returned.
 pub(crate) fn take_out_or_hold(
     alloc: Global,
     pool: &mut Pool,
@@ -97,18 +86,24 @@ pub(crate) fn take_out_or_hold(
     requires few { length rows.old < u32.MAX }
     requires ready { AreReady pool.old rows.old uses.old }
     requires there { step.next < length rows.old }
-    requires within { (p : ℕ) → p < length rows.old → length_in (table_of pool.old rows.old) p ≤ step.limit }
-    ensures held { IfOk result (λ held. held ≡ (step.hold && table_passes step.limit (table_without step.next (table_of pool.old rows.old)))) }
+    requires within { (p : ℕ) → p < length rows.old →
+        length_in (table_of pool.old rows.old) p ≤ step.limit }
+    ensures held { IfOk result (λ held. held ≡ (step.hold
+        && table_passes step.limit (table_without step.next (table_of pool.old rows.old)))) }
     ensures rows { IfOk result (λ held. table_of pool.new rows.new
-        ≡ cond held (table_of pool.old rows.old) (table_without step.next (table_of pool.old rows.old))) }
+        ≡ cond held (table_of pool.old rows.old)
+        (table_without step.next (table_of pool.old rows.old))) }
     ensures ready { AreReady pool.new rows.new uses.new }
     ensures kept { Kept pool.old pool.new }
     ensures within { IfOk result (λ held. held ≡ false → (p : ℕ) → p < length rows.old →
         length_in (table_without step.next (table_of pool.old rows.old)) p ≤ step.limit) }
     ensures passed { IfErr result (OnLimit (λ passed. (step.hold ≡ false)
-        × (passed_by (length_in (table_without step.next (table_of pool.old rows.old))) (numbers (length rows.old) 0) step.limit step.gone ≡ Some passed))) }
-    ensures filed { IfOk result (λ held. (may : ℕ → Bool) → Filed waiting.old may (length_in (table_of pool.old rows.old)) →
-        Filed waiting.new may (length_in (cond held (table_of pool.old rows.old) (table_without step.next (table_of pool.old rows.old))))) }
+        × (passed_by (length_in (table_without step.next (table_of pool.old rows.old)))
+        (numbers (length rows.old) 0) step.limit step.gone ≡ Some passed))) }
+    ensures filed { IfOk result (λ held. (may : ℕ → Bool) →
+        Filed waiting.old may (length_in (table_of pool.old rows.old)) →
+        Filed waiting.new may (length_in (cond held (table_of pool.old rows.old)
+        (table_without step.next (table_of pool.old rows.old))))) }
 {
     let stays = is_to_stay(alloc, pool, rows, uses, step)?;
     if stays {
@@ -128,8 +123,10 @@ fn is_to_stay(
 ) -> Result<bool, AllocError>
     requires ready { AreReady pool.now rows.now uses.now }
     requires there { step.next < length rows.now }
-    requires within { (p : ℕ) → p < length rows.now → length_in (table_of pool.now rows.now) p ≤ step.limit }
-    ensures { IfOk result (λ stays. stays ≡ (step.hold && table_passes step.limit (table_without step.next (table_of pool.now rows.now)))) }
+    requires within { (p : ℕ) → p < length rows.now →
+        length_in (table_of pool.now rows.now) p ≤ step.limit }
+    ensures { IfOk result (λ stays. stays ≡ (step.hold
+        && table_passes step.limit (table_without step.next (table_of pool.now rows.now)))) }
 {
     if !step.hold {
         return Ok(false);
@@ -137,8 +134,8 @@ fn is_to_stay(
     would_pass(alloc, pool, rows, uses, step.next, step.limit)
 }
 
-/// Takes a package that waits no longer out of the rows, tests the rows of its users against the limit, and files those
-/// that wait again.
+/// Takes a package, which waits no longer, out of the rows of its users, and files those that wait
+/// again. It fails before any change if a row would pass the limit.
 pub(crate) fn take_out(
     alloc: Global,
     pool: &mut Pool,
@@ -150,28 +147,34 @@ pub(crate) fn take_out(
     requires few { length rows.old < u32.MAX }
     requires ready { AreReady pool.old rows.old uses.old }
     requires there { step.next < length rows.old }
-    requires within { (p : ℕ) → p < length rows.old → length_in (table_of pool.old rows.old) p ≤ step.limit }
-    ensures rows { OnOk result (table_of pool.new rows.new ≡ table_without step.next (table_of pool.old rows.old)) }
+    requires within { (p : ℕ) → p < length rows.old →
+        length_in (table_of pool.old rows.old) p ≤ step.limit }
+    ensures rows { OnOk result (table_of pool.new rows.new
+        ≡ table_without step.next (table_of pool.old rows.old)) }
     ensures ready { AreReady pool.new rows.new uses.new }
     ensures kept { Kept pool.old pool.new }
     ensures within { OnOk result ((p : ℕ) → p < length rows.old →
         length_in (table_without step.next (table_of pool.old rows.old)) p ≤ step.limit) }
     ensures passed { IfErr result (OnLimit (λ passed.
-        passed_by (length_in (table_without step.next (table_of pool.old rows.old))) (numbers (length rows.old) 0) step.limit step.gone ≡ Some passed)) }
-    ensures filed { OnOk result ((may : ℕ → Bool) → Filed waiting.old may (length_in (table_of pool.old rows.old)) →
+        passed_by (length_in (table_without step.next (table_of pool.old rows.old)))
+        (numbers (length rows.old) 0) step.limit step.gone ≡ Some passed)) }
+    ensures filed { OnOk result ((may : ℕ → Bool) →
+        Filed waiting.old may (length_in (table_of pool.old rows.old)) →
         Filed waiting.new may (length_in (table_without step.next (table_of pool.old rows.old)))) }
 {
     let users = uses.users(alloc, pool, rows, step.next)?;
-    change_rows(alloc, pool, rows, uses, users.as_slice(), step.next)?;
-    if let Some(over) = first_over(rows, users.as_slice(), step.limit) {
+    let over = first_over(alloc, pool, rows, users.as_slice(), step.next, step.limit)?;
+    if let Some(over) = over {
         return Err(FlatError::Limit {
             gone: step.gone,
-            package: over,
-            count: clauses_in(rows, over),
+            package: over.package,
+            count: over.count,
         });
     }
+    change_rows(alloc, pool, rows, uses, users.as_slice(), step.next)?;
     file_users(rows, users.as_slice(), waiting);
-    // No row holds the package any more. Else each other member of its clauses would go through all their users again.
+    // No row holds the package any more. Without this each other member of its clauses would go
+    // through all their users again.
     uses.forget(step.next);
     Ok(())
 }

@@ -11,7 +11,8 @@ use listed::{Listed, holds_ascending};
 use row_book::IdList;
 use std::alloc::{AllocError, Global};
 
-/// Whether the clause of the row stays: it does not hold the package, and no other one lies within it.
+/// Whether the clause of the row stays: it does not hold the package, and no other one is within
+/// it.
 fn stays_in(pool: &Pool, number: u32, row: &[ClauseId], id: ClauseId) -> bool
     requires pool { IsPool pool.now }
     requires of_pool { OfPool pool.now row.now }
@@ -24,7 +25,7 @@ fn stays_in(pool: &Pool, number: u32, row: &[ClauseId], id: ClauseId) -> bool
     if holds_ascending(clause, number) {
         return false;
     }
-    // Within a clause of one number lies no other one but the empty one, which comes first in its row.
+    // Only the empty clause, which comes first in its row, can be within a clause of one number.
     if clause.len() == 1 {
         return !begins_empty(pool, row);
     }
@@ -53,7 +54,8 @@ fn kept_clauses(
     requires of_pool { OfPool pool.now row.now }
     requires in_order { InOrder (clauses_at pool.now row.now) }
     requires rising { (c : List ℕ) → In c (clauses_at pool.now row.now) → Ascending c }
-    ensures { IfOk result (λ kept. kept.items ≡ filter (λ id. stays number (clauses_at pool.now row.now) (clause_at pool.now id)) row.now) }
+    ensures { IfOk result (λ kept. kept.items ≡ filter (λ id.
+        stays number (clauses_at pool.now row.now) (clause_at pool.now id)) row.now) }
 {
     let mut kept = Vec::with_capacity(alloc, row.len())?;
     for id in row {
@@ -69,7 +71,8 @@ fn tidy_row(alloc: Global, pool: &Pool, number: u32, row: RowId) -> Result<IdLis
     requires pool { IsPool pool.now }
     requires row { row < length pool.now.rows }
     ensures of_pool { IfOk result (OfPool pool.now) }
-    ensures tidied { IfOk result (λ ids. clauses_at pool.now ids ≡ first_row number (row_at pool.now row)) }
+    ensures tidied { IfOk result (λ ids. clauses_at pool.now ids
+        ≡ first_row number (row_at pool.now row)) }
 {
     let kept = kept_clauses(alloc, pool, number, pool.row(row))?;
     Ok(Listed::of(kept))
@@ -83,7 +86,8 @@ pub(crate) fn tidy_rows(
 ) -> Result<Vec<IdList>, AllocError>
     requires few { length rows.now < u32.MAX }
     requires fit { RowsFit pool.now rows.now }
-    ensures tidied { IfOk result (λ made. table_of pool.now made.items ≡ tidied_table (map (row_at pool.now) rows.now)) }
+    ensures tidied { IfOk result (λ made. table_of pool.now made.items
+        ≡ tidied_table (map (row_at pool.now) rows.now)) }
     ensures count { IfOk result (λ made. length made.items ≡ length rows.now) }
     ensures fit { IfOk result (λ made. ListsFit pool.now made.items) }
     ensures tidy { IfOk result (λ made. ListsTidy pool.now made.items) }

@@ -7,11 +7,11 @@ use crate::least_tree::{depth_for, first_least, put_leaf};
 use std::alloc::{AllocError, Global};
 use std::marker::Model;
 
-/// What stands at a package that does not wait.
+/// The number at a package that does not wait.
 const NEVER: u64 = u64::MAX;
 
-/// The packages that wait to be taken out, in their order: the fewest clauses first, and of as many the least package. The leaf of
-/// a package has the number of its clauses while it waits.
+/// The packages that wait to be taken out. The leaf of a package has the number of its clauses
+/// while it waits, so the one with the fewest comes first, and of these the least package.
 #[derive(Drop)]
 pub(crate) struct Waiting {
     depth: u32,
@@ -32,7 +32,7 @@ impl Model for Waiting {
 }
 
 impl Waiting {
-    /// None of the packages, with room for so many of them.
+    /// No package, with room for this number of them.
     pub(crate) fn with_room(alloc: Global, packages: u32) -> Result<Waiting, AllocError>
         ensures none { IfOk result (λ waiting. (count : ℕ → ℕ) → Filed waiting (λ q. false) count) }
         ensures room { IfOk result (λ waiting. packages ≤ length waiting) }
@@ -42,22 +42,26 @@ impl Waiting {
         Ok(Waiting { depth, nodes })
     }
 
-    /// Puts a package with the number of its clauses to those that wait.
+    /// Adds a package with the number of its clauses.
     pub(crate) fn put(&mut self, number: u32, clauses: u64)
         requires room { number < length self.old }
         requires few { clauses < never }
-        ensures filed { (may : ℕ → Bool) (count : ℕ → ℕ) → Filed self.old may count → count number ≡ clauses →
+        ensures filed { (may : ℕ → Bool) (count : ℕ → ℕ) → Filed self.old may count →
+            count number ≡ clauses →
             Filed self.new (plus may number) count }
         ensures room { length self.new ≡ length self.old }
     {
         self.file(number as usize, clauses);
     }
 
-    /// Takes the package whose turn is first from those that wait.
+    /// Removes and returns the package whose turn is first.
     pub(crate) fn take_first(&mut self) -> Option<u32>
-        ensures none { IfNone result ((may : ℕ → Bool) (count : ℕ → ℕ) → Filed self.old may count → (q : ℕ) → may q ≡ false) }
-        ensures first { IfSome result (λ q. (may : ℕ → Bool) (count : ℕ → ℕ) → Filed self.old may count → IsFirst may count q) }
-        ensures taken { IfSome result (λ q. (may : ℕ → Bool) (count : ℕ → ℕ) → Filed self.old may count → Filed self.new (without may q) count) }
+        ensures none { IfNone result ((may : ℕ → Bool) (count : ℕ → ℕ) → Filed self.old may count →
+            (q : ℕ) → may q ≡ false) }
+        ensures first { IfSome result (λ q. (may : ℕ → Bool) (count : ℕ → ℕ) →
+            Filed self.old may count → IsFirst may count q) }
+        ensures taken { IfSome result (λ q. (may : ℕ → Bool) (count : ℕ → ℕ) →
+            Filed self.old may count → Filed self.new (without may q) count) }
     {
         let number = first_least(self.nodes.as_slice(), self.depth) as u32;
         if self.turn(number) == NEVER {
@@ -70,7 +74,8 @@ impl Waiting {
     /// Files a package, if it waits, under another number of clauses.
     pub(crate) fn file_again(&mut self, number: u32, clauses: u64)
         requires few { clauses < never }
-        ensures { (may : ℕ → Bool) (count : ℕ → ℕ) → Filed self.old may count → Filed self.new may (recounted count number clauses) }
+        ensures { (may : ℕ → Bool) (count : ℕ → ℕ) → Filed self.old may count →
+            Filed self.new may (recounted count number clauses) }
     {
         if self.turn(number) == NEVER {
             return;
@@ -100,7 +105,7 @@ impl Waiting {
     }
 }
 
-/// So many nodes of a tree in which no package waits.
+/// The nodes of a tree in which no package waits.
 fn none_filed(alloc: Global, count: usize) -> Result<Vec<u64>, AllocError>
     ensures { IfOk result (λ nodes. nodes.items ≡ replicate count never) }
 {

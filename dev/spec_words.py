@@ -25,6 +25,10 @@ FUNCTION = re.compile(r"^( *)(pub )?fn (\w+)\b.*?^\1(?:\{|\}|[^\n]*;$)", re.M | 
 CLAUSE = re.compile(r"^ +(?:requires|ensures) ?(\w*) \{(.*?)\};?$", re.M | re.S)
 
 
+# How many columns a line has for the sums of what is to be read.
+WIDE = 150
+
+
 @dataclasses.dataclass(eq=False)
 class Definition:
     """A definition, or a type: where it stands, its kind, how many lines of comment stand at it, and its own lines."""
@@ -44,6 +48,25 @@ class Definition:
                 blocks.append([])
             blocks[-1].append(line)
         return blocks
+
+    def size(self):
+        """How many lines of WIDE columns it takes, wherever its file breaks them; those of a type as they stand."""
+        return len(self.lines) if self.kind == "type" else sum(-(-len(line) // WIDE) for line in whole_lines(self.lines))
+
+
+def whole_lines(lines):
+    """Lines with those put together that were broken: such a line is indented deeper than a field, or stands in an open bracket."""
+    whole = []
+    for line in lines:
+        if whole and (line.startswith("   ") or is_open(whole[-1])):
+            whole[-1] += f" {line.strip()}"
+        else:
+            whole.append(line)
+    return whole
+
+
+def is_open(line):
+    return sum(line.count(sign) for sign in "([{") > sum(line.count(sign) for sign in ")]}")
 
 
 class Logic:

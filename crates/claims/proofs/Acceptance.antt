@@ -1,4 +1,5 @@
 -- An index, as the relation has it, has no fault where its packages are no more than may be.
+use Rattle.relation_fields.specs.Spelling.{SpellsAlternatives, SpellsAtom, SpellsProvide}
 use Rattle.std.proofs.Common.{◌≡◌, ◌≢◌, ℕ, suc, ◌+◌, ◌<◌, ◌≤◌, Bool, true, false, not, cond, ◌&&◌, ◌||◌, List, [], ◌∷◌, ◌++◌, Option, Some, None, length, take, map, refl, sym, ap, ◌∙◌, subst, inl, inr, ◌⊎◌, arith, length-append, append_assoc}
 use Rattle.std.proofs.{Math.Seq.{take-append_seam}, lemmas.Bool.{and_parts, cases_Bool, false_from_ne_true}, lemmas.Bool.Decides.{nat_tests}}
 use Rattle.std.proofs.{lemmas.List.{append-nil, length-map, map-append}, lemmas.List.Elements.{AllZip-get_or}, lemmas.List.Folds.{list_all-append}}
@@ -12,7 +13,7 @@ use Rattle.listed.proofs.Lists.{In_append_left, In_append_right, In_cases, In_ma
 use Rattle.relation_fields.specs.Fields as whole
 use Rattle.relation_fields.specs.{Fields.{first_outside, is_outside, written}, Grammar.{atom_of, alternatives_of, provide_of, is_architecture}}
 use Rattle.relation_fields.specs.{Spelling.{Reads}, Texts.{is_white}, declared.packages.Home.{Home}, declared.packages.PackageFacts.{PackageFacts}}
-use Rattle.stanza_reader.specs.Fields.{continued, is_field_name, is_field_name_byte, is_bad_start, is_same_name, lowered, name_of}
+use Rattle.stanza_reader.specs.Fields.{continued, is_field_name, is_field_name_byte, is_same_name, lowered, name_of}
 use Rattle.stanza_reader.specs.Lines.{Line, is_continuation, lines, numbered}
 use Rattle.stanza_reader.specs.Stanzas as reader
 use Rattle.stanza_reader.specs.Stanzas.{texts, first_line_fault, first_number, group_shape_fault, has_name, kept_fields, line_fault, readings, repeat_fault, stanza_of, unless_fault}
@@ -26,13 +27,14 @@ use Rattle.repo_model.specs.{Limits.{most_packages}, Stanzas.{stanza_at, no_stan
 use Rattle.repo_model.specs.declared.fault.IndexFault.TheVariants.{MissingPackage, MissingVersion, BadPackage, BadVersion, BadArchitecture, BadRelation, Duplicate, Mixed, TooMany}
 use Rattle.repo_model.proofs.{Accepted.{AreSingle}, Refusing.{none_behind}}
 use Rattle.coinst_words.specs.Usage.{Text}
-use Rattle.claims.specs.{Control.{fields, name_key, field_value, AreDistinct, IsStanza}, Spelling.{WritesAlternatives, WritesAtom, WritesProvide}}
-use Rattle.claims.specs.{Index.{relation_elements, FitsHome, Says, SaysTheSame}, Laws.{IndexesAreAccepted}}
+use Rattle.claims.specs.{Control.{fields, name_key, field_value, AreDistinct, IsStanza}, Index.{relation_elements, FitsHome, Says, SaysTheSame}}
+use Rattle.claims.specs.Laws.{IndexesAreAccepted}
 use Rattle.stanza_reader.proofs.LineLemmas.{cut_later}
 use Rattle.deb_version.specs.Order.{version_order}
 use Rattle.claims.proofs.Control.{groups_are_theirs, group_is_read, name_whole, none_of, shaped}
 use Rattle.claims.proofs.{Index.{first_there, Local, ok, own_field, same_text, says, says_one, stanzas_ok, zip_both, zip_left}, Kernel.{map_map}}
-use Rattle.claims.proofs.{Spelling.{spellings_are_read}, Values.{key, kept_value, value_is}}
+use Rattle.claims.proofs.Values.{key, kept_value, value_is}
+use Rattle.relation_fields.proofs.Readings.{alternatives_read, atoms_read, provides_read}
 
 none_any : {A : Type 0} (p : A → Bool) (xs : List A) → ((x : A) → In x xs → p x ≡ false) → list_any p xs ≡ false
 none_any p [] f = refl
@@ -57,7 +59,7 @@ name_past (b ∷ bs) more none = go (is_colon b) refl none (name_past bs more)
 feed_in_name : (line more : Text) → is_field_name (line ++ 10 ∷ more) ≡ true → ⊥
 feed_in_name [] more e = let wrong : false ≡ true = e in let never : ⊥ = cc in never
 feed_in_name (b ∷ bs) more e =
-    let all = (and_parts (not (is_bad_start b)) (list_all is_field_name_byte ((b ∷ bs) ++ 10 ∷ more)) e).1 in
+    let all = (and_parts (not (b == 35 || b == 45)) (list_all is_field_name_byte ((b ∷ bs) ++ 10 ∷ more)) e).1 in
     let both = and_parts (list_all is_field_name_byte (b ∷ bs)) (list_all is_field_name_byte (10 ∷ more)) (sym (list_all-append is_field_name_byte (b ∷ bs) (10 ∷ more)) ∙ all) in
     let last : false ≡ true = both.1 in
     let never : ⊥ = cc in never
@@ -231,19 +233,19 @@ module _ (home : Home) (group : List Line) (facts : PackageFacts) (s : Says home
   unfolding presence_fault value_fault
   own_none =
       let r = raw group in
-      let needs = in_zip WritesAlternatives (relation_elements (key PreDepends) (texts group) ++ relation_elements (key Depends) (texts group)) facts.needs s.needs in
-      let against = in_zip WritesAtom (relation_elements (key Conflicts) (texts group) ++ relation_elements (key Breaks) (texts group)) facts.against s.against in
+      let needs = in_zip SpellsAlternatives (relation_elements (key PreDepends) (texts group) ++ relation_elements (key Depends) (texts group)) facts.needs s.needs in
+      let against = in_zip SpellsAtom (relation_elements (key Conflicts) (texts group) ++ relation_elements (key Breaks) (texts group)) facts.against s.against in
       none_behind (presence_fault r) (value_fault r)
       (none_behind (missing Package (MissingPackage r.line) r) _ (there_is Package (MissingPackage r.line) r facts.name (value Package ∙ s.name.0))
       (none_behind (missing Version (MissingVersion r.line) r) _ (there_is Version (MissingVersion r.line) r facts.version (value Version ∙ s.version.0)) refl))
       (none_behind (bad_value Package is_name BadPackage r) _ (good_value Package is_name BadPackage r (same_value is_name facts.name Package s.name.0 s.name.1))
       (none_behind (bad_value Version is_version BadVersion r) _ (good_value Version is_version BadVersion r (same_value is_version facts.version Version s.version.0 s.version.1))
       (none_behind (bad_value Architecture is_architecture BadArchitecture r) _ (good_value Architecture is_architecture BadArchitecture r architecture_good)
-      (none_behind (bad_relation PreDepends alternatives_of r) _ (relation_none alternatives_of WritesAlternatives spellings_are_read.alternatives PreDepends (texts group) r (value PreDepends) (λ t i. needs t (In_append_left (relation_elements (key PreDepends) (texts group)) (relation_elements (key Depends) (texts group)) t i)))
-      (none_behind (bad_relation Depends alternatives_of r) _ (relation_none alternatives_of WritesAlternatives spellings_are_read.alternatives Depends (texts group) r (value Depends) (λ t i. needs t (In_append_right (relation_elements (key PreDepends) (texts group)) (relation_elements (key Depends) (texts group)) t i)))
-      (none_behind (bad_relation Conflicts atom_of r) _ (relation_none atom_of WritesAtom spellings_are_read.atoms Conflicts (texts group) r (value Conflicts) (λ t i. against t (In_append_left (relation_elements (key Conflicts) (texts group)) (relation_elements (key Breaks) (texts group)) t i)))
-      (none_behind (bad_relation Breaks atom_of r) _ (relation_none atom_of WritesAtom spellings_are_read.atoms Breaks (texts group) r (value Breaks) (λ t i. against t (In_append_right (relation_elements (key Conflicts) (texts group)) (relation_elements (key Breaks) (texts group)) t i)))
-      (none_behind (bad_relation Provides provide_of r) _ (relation_none provide_of WritesProvide spellings_are_read.provides Provides (texts group) r (value Provides) (in_zip WritesProvide (relation_elements (key Provides) (texts group)) facts.provides s.provides)) refl))))))))
+      (none_behind (bad_relation PreDepends alternatives_of r) _ (relation_none alternatives_of SpellsAlternatives alternatives_read PreDepends (texts group) r (value PreDepends) (λ t i. needs t (In_append_left (relation_elements (key PreDepends) (texts group)) (relation_elements (key Depends) (texts group)) t i)))
+      (none_behind (bad_relation Depends alternatives_of r) _ (relation_none alternatives_of SpellsAlternatives alternatives_read Depends (texts group) r (value Depends) (λ t i. needs t (In_append_right (relation_elements (key PreDepends) (texts group)) (relation_elements (key Depends) (texts group)) t i)))
+      (none_behind (bad_relation Conflicts atom_of r) _ (relation_none atom_of SpellsAtom atoms_read Conflicts (texts group) r (value Conflicts) (λ t i. against t (In_append_left (relation_elements (key Conflicts) (texts group)) (relation_elements (key Breaks) (texts group)) t i)))
+      (none_behind (bad_relation Breaks atom_of r) _ (relation_none atom_of SpellsAtom atoms_read Breaks (texts group) r (value Breaks) (λ t i. against t (In_append_right (relation_elements (key Conflicts) (texts group)) (relation_elements (key Breaks) (texts group)) t i)))
+      (none_behind (bad_relation Provides provide_of r) _ (relation_none provide_of SpellsProvide provides_read Provides (texts group) r (value Provides) (in_zip SpellsProvide (relation_elements (key Provides) (texts group)) facts.provides s.provides)) refl))))))))
 
   pub says_own : Says home (texts group) (facts_of (raw group))
   says_own = says home group (raw group) (group_is_read group (raw group) (stanza_ok group s.stanza)) own_none is_local

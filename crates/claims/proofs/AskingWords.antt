@@ -1,7 +1,7 @@
 -- Which jobs the words of the commands that search ask for.
 use Rattle.std.proofs.Common.{◌≡◌, ℕ, ◌≤◌, Bool, true, false, cond, ◌&&◌, List, [], ◌∷◌, ◌++◌, Option, Some, None, length, refl, sym, ap, ◌∙◌, subst, append_assoc}
 use Rattle.std.proofs.lemmas.List.{append-nil}
-use Rattle.std.specs.{Prelude.{codes, unwrap_or, option_and_then, option_map}, Fmt.{decimal}, Str.{bytes_eq}}
+use Rattle.std.specs.{Prelude.{codes, get_or, unwrap_or, option_and_then, option_map, ◌==◌}, Fmt.{decimal}, Str.{bytes_eq}}
 use Rattle.clap.specs.Lexer.{long_of, long_of_rest, short_of, short_of_rest, strip_byte}
 use Rattle.coinst_words.specs.Usage.{Usage, Said, dashed_or_plain, ends, flag, long_or_other, asks, plain, nothing_said, meaning_of, value_of, give, read_word, read, Text}
 use Rattle.coinst_words.specs.Words.{is_path, clause_limit_of, budget_of, two_paths, index_and_goals, some_goals_of, goals_of}
@@ -10,11 +10,11 @@ use Rattle.coinst_words.specs.{declared.job.Job.{Job}, declared.job.Settings.{Se
 use Rattle.coinst_words.specs.declared.job.Job.TheVariants.{Query, StoredQuery, Explain, Status, Migrate}
 use Rattle.listed.specs.Lists.{here, there}
 use Rattle.repo_model.specs.declared.goals.Goal.{Goal}
-use Rattle.claims.specs.Words.{AreOrdinary, asking_words, is_dashed, number_words, stored_words}
+use Rattle.claims.specs.Words.{AreOrdinary, asking_words, number_words, stored_words}
 use Rattle.claims.proofs.{Goals.{AreGoals, goals_read}, Words.{Asked, asked, kept, number_told, options_in, said_with, short_words, two_said, word_waits}}
 
 -- an ordinary word is a plain one
-plain_word : (u : Usage) (word : Text) → is_dashed word ≡ false → meaning_of u word ≡ plain
+plain_word : (u : Usage) (word : Text) → (get_or word 0 0 == 45) ≡ false → meaning_of u word ≡ plain
 plain_word u [] e = refl
 plain_word u (b ∷ bs) e =
     let stripped : strip_byte 45 (b ∷ bs) ≡ None = ap (λ t. cond t (Some bs) None) e in

@@ -1,4 +1,5 @@
 -- The short definitions, computed at small values.
+use Rattle.relation_fields.specs.Spelling.{SpellsAtom}
 use Rattle.std.proofs.Common.{◌≡◌, ℕ, true, false, List, [], ◌∷◌, ◌++◌, Some, None, not, ◌&&◌, ◌||◌, inl, refl}
 use Rattle.std.specs.{Prelude.{codes, ◌==◌}, Fmt.{digits}, declared.cmp.Ordering.TheVariants.{Less, Equal, Greater}}
 use Rattle.deb_version.specs.Grammar.{behind_epoch, epoch_of, is_version, revision_in, upstream_in}
@@ -11,7 +12,7 @@ use Rattle.search_terms.specs.{Closure.{literal}, declared.literals.Literal.{Lit
 use Rattle.suite_compare.specs.declared.report.ReportLine.TheVariants.{Broken1, Open2}
 use Rattle.coinst_words.specs.Usage.{Text}
 use Rattle.claims.specs.{Printed.{printed_comparison}, Control.{fields, stanza_groups, field_value}, Index.{relation_elements, is_one_package}}
-use Rattle.claims.specs.{Search.{class_to_split}, Spelling.{WritesAtom}, Words.{compare_words, kernel_words}}
+use Rattle.claims.specs.{Search.{class_to_split}, Words.{asking_words}}
 use Rattle.repo_model.specs.Repository.{suite_repository}
 use Rattle.deb_version.specs.Order.{behind, first_difference, number_piece, part_order, pieces_order, plain_piece, version_order}
 
@@ -76,7 +77,7 @@ one_package = refl
 abbrev b_from_one : Atom
 b_from_one = record { name = codes "b"; qualifier = Some (codes "any"); bound = Some (record { op = LaterEqual; version = codes "1" }) }
 
-an_atom : WritesAtom (codes " b:any (>= 1) ") b_from_one
+an_atom : SpellsAtom (codes " b:any (>= 1) ") b_from_one
 unfolding is_version epoch_of behind_epoch upstream_in revision_in
 an_atom = (codes " ", codes ":any", codes " ", codes "(>= 1)", codes " ", refl, refl, (refl, refl), ([], codes ">=", codes " ", [], refl, inl refl, refl, refl), refl)
 
@@ -136,10 +137,10 @@ three_lines : printed_comparison (Broken1 (codes "a") ∷ Open2 (codes "b") (cod
 unfolding printed_comparison digits
 three_lines = refl
 
-words_of_a_kernel : kernel_words (Some 12) true (codes "Packages") ≡ codes "kernel" ∷ codes "--clause-limit" ∷ codes "12" ∷ codes "--hold" ∷ codes "Packages" ∷ []
+words_of_a_kernel : asking_words (codes "kernel") None (Some 12) true (codes "Packages" ∷ []) ≡ codes "kernel" ∷ codes "--clause-limit" ∷ codes "12" ∷ codes "--hold" ∷ codes "Packages" ∷ []
 unfolding digits
 words_of_a_kernel = refl
 
-words_of_a_comparison : compare_words None (Some 7) false (codes "old") (codes "new") ≡ codes "compare" ∷ codes "--clause-limit" ∷ codes "7" ∷ codes "old" ∷ codes "new" ∷ []
+words_of_a_comparison : asking_words (codes "compare") None (Some 7) false (codes "old" ∷ codes "new" ∷ []) ≡ codes "compare" ∷ codes "--clause-limit" ∷ codes "7" ∷ codes "old" ∷ codes "new" ∷ []
 unfolding digits
 words_of_a_comparison = refl

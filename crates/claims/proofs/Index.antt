@@ -1,4 +1,5 @@
 -- An index without a fault is an index of the packages that are read of it.
+use Rattle.relation_fields.specs.Spelling.{SpellsAlternatives, SpellsAtom, SpellsProvide}
 use Rattle.std.proofs.Common.{◌≡◌, ℕ, zero, suc, ◌+◌, ◌<◌, Bool, true, false, not, cond, ◌||◌, List, [], ◌∷◌, ◌++◌, Option, Some, None, Result, Ok, Err, length, take, map, refl, sym, ap, ◌∙◌, subst, inl, inr, ◌⊎◌, arith, length-append, append_assoc}
 use Rattle.std.proofs.{Math.Seq.{take-append_seam}, lemmas.List.{append-nil, length-map, map-append}}
 use Rattle.std.specs.{Prelude.{nat_le, codes, unwrap_or, is_some, ◌==◌}, List.{AllZip, filter, list_all, slice_split}}
@@ -24,9 +25,10 @@ use Rattle.repo_model.specs.declared.fault.IndexFault.TheVariants.{Stanza, Missi
 use Rattle.repo_model.proofs.Accepted as accepting
 use Rattle.repo_model.proofs.{Accepted.{AreSingle}, Steps.{home_of-push}, WellFormed.{none_of, facts_well_formed}}
 use Rattle.coinst_words.specs.Usage.{Text}
-use Rattle.claims.specs.{Control.{stanza_groups, field_value}, Spelling.{WritesAlternatives, WritesAtom, WritesProvide}}
-use Rattle.claims.specs.{Index.{relation_elements, FitsHome, Says, IndexSays, SaysTheSame}, Laws.{IndexesAreOne, IndexesAreRead}}
-use Rattle.claims.proofs.{Control.{groups_are_theirs, group_is_read, IsRead}, Spelling.{spellings_are_read}, Values.{key, kept_value, value_is}}
+use Rattle.claims.specs.{Control.{stanza_groups, field_value}, Index.{relation_elements, FitsHome, Says, IndexSays, SaysTheSame}}
+use Rattle.claims.specs.Laws.{IndexesAreOne, IndexesAreRead}
+use Rattle.relation_fields.proofs.Readings.{alternatives_read, atoms_read, provides_read}
+use Rattle.claims.proofs.{Control.{groups_are_theirs, group_is_read, IsRead}, Values.{key, kept_value, value_is}}
 
 -- lists side by side
 pub zip_map : {A B C D : Type 0} (R : A → B → Type 0) (S : C → D → Type 0) (f : A → C) (g : B → D) (xs : List A) (ys : List B)
@@ -127,13 +129,13 @@ says home group s r none local =
       name = (sym (value Package) ∙ present Package (MissingPackage s.line) s name_there.0, formed.0);
       version = (sym (value Version) ∙ present Version (MissingVersion s.line) s version_there.0, formed.1);
       architecture = fits home (texts group) s (value Architecture) architectures.0 local;
-      needs = zip_append WritesAlternatives (relation_elements (key PreDepends) (texts group)) (said_in alternatives_of (kinds.value_of PreDepends s)) (relation_elements (key Depends) (texts group)) (said_in alternatives_of (kinds.value_of Depends s))
-          (spelled alternatives_of WritesAlternatives spellings_are_read.alternatives PreDepends (texts group) s (value PreDepends) pre_depends.0)
-          (spelled alternatives_of WritesAlternatives spellings_are_read.alternatives Depends (texts group) s (value Depends) depends.0);
-      against = zip_append WritesAtom (relation_elements (key Conflicts) (texts group)) (said_in atom_of (kinds.value_of Conflicts s)) (relation_elements (key Breaks) (texts group)) (said_in atom_of (kinds.value_of Breaks s))
-          (spelled atom_of WritesAtom spellings_are_read.atoms Conflicts (texts group) s (value Conflicts) conflicts.0)
-          (spelled atom_of WritesAtom spellings_are_read.atoms Breaks (texts group) s (value Breaks) breaks.0);
-      provides = spelled provide_of WritesProvide spellings_are_read.provides Provides (texts group) s (value Provides) provides.0;
+      needs = zip_append SpellsAlternatives (relation_elements (key PreDepends) (texts group)) (said_in alternatives_of (kinds.value_of PreDepends s)) (relation_elements (key Depends) (texts group)) (said_in alternatives_of (kinds.value_of Depends s))
+          (spelled alternatives_of SpellsAlternatives alternatives_read PreDepends (texts group) s (value PreDepends) pre_depends.0)
+          (spelled alternatives_of SpellsAlternatives alternatives_read Depends (texts group) s (value Depends) depends.0);
+      against = zip_append SpellsAtom (relation_elements (key Conflicts) (texts group)) (said_in atom_of (kinds.value_of Conflicts s)) (relation_elements (key Breaks) (texts group)) (said_in atom_of (kinds.value_of Breaks s))
+          (spelled atom_of SpellsAtom atoms_read Conflicts (texts group) s (value Conflicts) conflicts.0)
+          (spelled atom_of SpellsAtom atoms_read Breaks (texts group) s (value Breaks) breaks.0);
+      provides = spelled provide_of SpellsProvide provides_read Provides (texts group) s (value Provides) provides.0;
     }
 
 -- stanzas without faults, none with another architecture than the common one
@@ -310,9 +312,9 @@ pub says_one : (h k : Home) (group : List Text) (s t : PackageFacts) → Says h 
 says_one h k group s t a b = (
   same_text s.name t.name (sym a.name.0 ∙ b.name.0),
   same_text s.version t.version (sym a.version.0 ∙ b.version.0),
-  zip_one alternatives_of WritesAlternatives spellings_are_read.alternatives (relation_elements (codes "pre-depends") group ++ relation_elements (codes "depends") group) s.needs t.needs a.needs b.needs,
-  zip_one atom_of WritesAtom spellings_are_read.atoms (relation_elements (codes "conflicts") group ++ relation_elements (codes "breaks") group) s.against t.against a.against b.against,
-  zip_one provide_of WritesProvide spellings_are_read.provides (relation_elements (codes "provides") group) s.provides t.provides a.provides b.provides,
+  zip_one alternatives_of SpellsAlternatives alternatives_read (relation_elements (codes "pre-depends") group ++ relation_elements (codes "depends") group) s.needs t.needs a.needs b.needs,
+  zip_one atom_of SpellsAtom atoms_read (relation_elements (codes "conflicts") group ++ relation_elements (codes "breaks") group) s.against t.against a.against b.against,
+  zip_one provide_of SpellsProvide provides_read (relation_elements (codes "provides") group) s.provides t.provides a.provides b.provides,
 )
 
 pub zip_both : {A B C : Type 0} (R : A → B → Type 0) (S : A → C → Type 0) (T : B → C → Type 0) → ((x : A) (y : B) (z : C) → R x y → S x z → T y z) → (xs : List A) (ys : List B) (zs : List C) → AllZip R xs ys → AllZip S xs zs → AllZip T ys zs

@@ -1,4 +1,3 @@
-pub mod Spelling
 pub mod Control
 pub mod Values
 pub mod Index

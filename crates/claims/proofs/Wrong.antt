@@ -1,7 +1,8 @@
 -- Reports of which the sentences are not true.
+use Rattle.relation_fields.specs.Spelling.{SpellsAlternatives, SpellsAtom}
 use Rattle.suite_compare.specs.{Indexes.{SearchedIndex}, Listing.{AreInOrder, IsAsked, Precedes, names_of, is_broken}}
 use Rattle.claims.specs.Settled.{Found}
-use Rattle.std.proofs.Common.{◌≡◌, ℕ, ◌<◌, Bool, true, false, not, cond, ◌||◌, eqb, eqb-true, List, [], ◌∷◌, ◌++◌, Result, Ok, Err, Some, None, length, refl, sym, ap, subst, ◌∙◌, arith, inl, inr}
+use Rattle.std.proofs.Common.{◌≡◌, ℕ, ◌<◌, Bool, true, false, not, cond, ◌||◌, eqb, eqb-true, List, [], ◌∷◌, ◌++◌, Result, Ok, Err, Some, None, length, refl, sym, ap, subst, ◌∙◌, arith, inl, inr, map}
 use Rattle.std.specs.{Prelude.{codes, slice_index_or}, Fmt.{digits}, List.{AllZip, list_any}}
 use Rattle.clause_solver.specs.declared.outcomes.Verdict.TheVariants.{Yes, No}
 use Rattle.deb_version.specs.Grammar.{behind_epoch, epoch_of, is_version, revision_in, upstream_in}
@@ -21,12 +22,10 @@ use Rattle.row_book.specs.{Book.{lists_of_pairs}, Flattening.{held_of}, Numbers.
 use Rattle.search_terms.specs.{Derives.{Derives}, declared.literals.Literal.{Literal}}
 use Rattle.status_check.specs.{declared.report.OwnState.{OwnState}, declared.report.OwnState.TheVariants.{Healthy, Unhit, Clash as Clashing}}
 use Rattle.suite_compare.specs.{declared.report.ReportLine.{ReportLine}, declared.report.ReportLine.TheVariants.{Broken1, Broken2, Open1, Open2}}
-use Rattle.claims.specs.{Answers.{printed_installation, printed_no}, Certificates.{Refutes}, Control.{stanza_groups}}
-use Rattle.claims.specs.{Explained.{PrintedGoal, printed_core, kept_words}, Goals.{CanMeet, HasEach, all_stanzas}, Index.{GroupsSay, Says}, Plans.{IsMix}}
-use Rattle.claims.specs.{Settled.{IsKernelText}, Laws.{WrongReports, a_class, a_package, as_read, two_classes}, Printed.{comparison_status}}
-use Rattle.claims.specs.Systems.{IsOwnState, system_status}
+use Rattle.claims.specs.{Answers.{printed_installation, printed_no}, Certificates.{Refutes}, Control.{stanza_groups}, Explained.{PrintedGoal, printed_core}}
+use Rattle.claims.specs.{Goals.{CanMeet, HasEach, all_stanzas}, Index.{GroupsSay, Says}, Plans.{IsMix}, Settled.{IsKernelText}}
+use Rattle.claims.specs.{Laws.{WrongReports, a_class, a_package, as_read, two_classes}, Printed.{comparison_status}, Systems.{IsOwnState, system_status}}
 use Rattle.claims.specs.Sentences.{IsFaithfulAnswer, IsFaithfulExplanation, IsFaithfulKernel, IsFaithfulList, IsFaithfulPlan, IsFaithfulStoredAnswer, IsFaithfulSystem, IsRightStep}
-use Rattle.claims.specs.Spelling.{WritesAlternatives, WritesAtom}
 use Rattle.claims.specs.Sentences.IsFaithfulAnswer.{yes as answer_yes, no as answer_no, undecided as answer_undecided}
 use Rattle.claims.specs.Sentences.IsFaithfulStoredAnswer.{yes as classes_yes, no as classes_no, undecided as classes_undecided}
 use Rattle.claims.specs.Sentences.IsFaithfulExplanation.{yes as yes_printed, core as core_printed, undecided as undecided_printed}
@@ -100,10 +99,10 @@ unfolding white.trim_both white.trim_end white.trim_start
 is_a home s it = let e : Some (codes "a") ≡ Some s.name = it.name.0 in let same : codes "a" ≡ s.name = cc in sym same
 
 needs_none : (home : Home) (s : PackageFacts) → Says home group s → s.needs ≡ []
-needs_none home s it = nothing {A = Text} WritesAlternatives s.needs it.needs
+needs_none home s it = nothing {A = Text} SpellsAlternatives s.needs it.needs
 
 against_none : (home : Home) (s : PackageFacts) → Says home group s → s.against ≡ []
-against_none home s it = nothing {A = Text} WritesAtom s.against it.against
+against_none home s it = nothing {A = Text} SpellsAtom s.against it.against
 
 abbrev first_alone : NumSet
 first_alone n = eqb n 0
@@ -196,7 +195,7 @@ no_goal : (index : SearchedIndex) (goals : List Text) (status : ℕ) → ¬ (IsF
 no_goal index goals status (yes_printed ends e within met) = let h : 101 ≡ 121 = ap head_of e in omega (arith, h)
 no_goal index goals status (core_printed ends kept clashes e within core conflicts) = go kept e core.impossible
   where
-    go : (kept : List PrintedGoal) → printed_core index.stanzas [] (Some []) ≡ printed_core index.stanzas kept clashes → ¬ (CanMeet index (kept_words kept)) → ⊥
+    go : (kept : List PrintedGoal) → printed_core index.stanzas [] (Some []) ≡ printed_core index.stanzas kept clashes → ¬ (CanMeet index (map (λ g. g.word) kept)) → ⊥
     go [] e none = none (meets_none index)
     go (g ∷ kept) e none = let h : 101 ≡ 103 = ap head_of e ∙ first g kept in omega (arith, h)
       where

@@ -9,15 +9,19 @@ use Rattle.search_terms.specs.declared.literals.Literal.{Literal}
 -- yes, and the packages with these numbers, each with its name and version
 abbrev pub printed_installation : List PackageFacts → List ℕ → Text
 printed_installation stanzas set =
-    with_feed (codes "yes") ++ flat_map (λ n. with_feed (codes "install " ++ (stanza_at stanzas n).name ++ codes " " ++ (stanza_at stanzas n).version)) set
+    with_feed (codes "yes")
+    ++ flat_map (λ n. with_feed (codes "install " ++ (stanza_at stanzas n).name
+    ++ codes " " ++ (stanza_at stanzas n).version)) set
 
 -- yes, and these classes
 abbrev pub printed_classes : List ℕ → Text
-printed_classes classes = with_feed (codes "yes") ++ flat_map (λ k. with_feed (codes "class" ++ behind_space k)) classes
+printed_classes classes =
+    with_feed (codes "yes") ++ flat_map (λ k. with_feed (codes "class" ++ behind_space k)) classes
 
 -- an entry of a log: its classes, each after `+`, or after `-` if it is not there
 abbrev pub printed_entry : List Literal → Text
-printed_entry entry = with_feed (codes "log" ++ flat_map (λ l. (if l.positive then codes " +" else codes " -") ++ decimal l.class) entry)
+printed_entry entry = with_feed (codes "log"
+    ++ flat_map (λ l. (if l.positive then codes " +" else codes " -") ++ decimal l.class) entry)
 
 -- no, and the log
 abbrev pub printed_no : List (List Literal) → Text

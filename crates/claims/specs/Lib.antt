@@ -1,5 +1,3 @@
-pub mod Texts
-pub mod Spelling
 pub mod Control
 pub mod Index
 pub mod Search

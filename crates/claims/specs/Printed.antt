@@ -6,14 +6,17 @@ use Rattle.kernel_text.specs.KernelLines.{with_feed}
 
 -- its text: `broken` or `open`, and the names, with a space before each
 abbrev pub printed_line : ReportLine → Text
-printed_line l = with_feed ((if is_broken l then codes "broken" else codes "open") ++ flat_map (λ name. codes " " ++ name) (names_of l))
+printed_line l = with_feed ((if is_broken l then codes "broken" else codes "open")
+    ++ flat_map (λ name. codes " " ++ name) (names_of l))
 
 -- the lines, and the last one with the numbers of broken and of open ones
 unfoldable pub printed_comparison : List ReportLine → Text
 printed_comparison lines =
     flat_map printed_line lines
-    ++ with_feed (codes "end " ++ (decimal (length (filter is_broken lines)) ++ (codes " " ++ decimal (length (filter (λ l. not (is_broken l)) lines)))))
+    ++ with_feed (codes "end " ++ (decimal (length (filter is_broken lines))
+    ++ (codes " " ++ decimal (length (filter (λ l. not (is_broken l)) lines)))))
 
 -- the status of a comparison: 1 if a line is broken, or else 8 if a line is open, or else 0
 abbrev pub comparison_status : List ReportLine → ℕ
-comparison_status lines = if list_any is_broken lines then 1 else (if list_any (λ l. not (is_broken l)) lines then 8 else 0)
+comparison_status lines = if list_any is_broken lines then 1
+    else (if list_any (λ l. not (is_broken l)) lines then 8 else 0)

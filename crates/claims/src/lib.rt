@@ -1,15 +1,12 @@
-//! The sentences on what the commands print, in specs/Sentences.antt. What they rest on is said here only where the code says it as a function, or at greater length,
-//! and then under a name of its own; laws tie the two. The functions do nothing, the contract of each is one law.
+//! The sentences on what the commands print, in specs/Sentences.antt. Some words that they rest on
+//! are functions in the code, or are said there at greater length. Only those are said here once
+//! more, under names of their own, and laws tie the two. The functions do nothing: the contract of
+//! each is one law.
 #![tactic(auto)]
 
-ghost use Rattle.claims.specs.Laws.{SpellingsAreRead, TreesAreSearches, SearchesAreOne, IndexesAreRead, IndexesAreOne, IndexesAreAccepted, KernelsAreKernels, KernelsAreOne, KernelsMeanThis, PrintedKernelsAreFaithful, KernelTextsAreThere, KernelTextsAreOne, KernelWordsAsk, CompareWordsAsk, WordsAreTaken, ComparisonsMeanThis, EmptyIndexes, TrueReports, WrongReports};
+ghost use Rattle.claims.specs.Laws.{TreesAreSearches, SearchesAreOne, IndexesAreRead, IndexesAreOne, IndexesAreAccepted, KernelsAreKernels, KernelsAreOne, KernelsMeanThis, PrintedKernelsAreFaithful, KernelTextsAreThere, KernelTextsAreOne, KernelWordsAsk, CompareWordsAsk, WordsAreTaken, ComparisonsMeanThis, EmptyIndexes, TrueReports, WrongReports};
 
-/// What is read of a relation is what it is one way of writing.
-pub fn spellings_are_read()
-    ensures { SpellingsAreRead }
-{}
-
-/// A search tree tells whether its search finds something, and how many leaves fail before.
+/// A search tree says whether its search finds something, and how many leaves fail before.
 pub fn trees_are_searches()
     ensures { TreesAreSearches }
 {}
@@ -29,8 +26,8 @@ pub fn indexes_are_accepted()
     ensures { IndexesAreAccepted }
 {}
 
-/// A text is an index of one list of packages, but for the lines on which they stand and whether they have an architecture other than `all`,
-/// and has one home.
+/// A text is an index of one list of packages, but for their line numbers and whether they have an
+/// architecture other than `all`. It has one home.
 pub fn indexes_are_one()
     ensures { IndexesAreOne }
 {}
@@ -50,12 +47,14 @@ pub fn kernels_mean_this()
     ensures { KernelsMeanThis }
 {}
 
-/// The text of the kernel of an index, at any limit, with hold or without, is a faithful kernel of it.
+/// The text of the kernel of an index, at any limit, with hold or without, is a faithful kernel of
+/// it.
 pub fn printed_kernels_are_faithful()
     ensures { PrintedKernelsAreFaithful }
 {}
 
-/// The text of the kernel of an index is one in the words of the sentences, so that they speak of some text.
+/// The text of the kernel of an index is one in the words of the sentences, so that they speak of
+/// some text.
 pub fn kernel_texts_are_there()
     ensures { KernelTextsAreThere }
 {}
@@ -65,12 +64,12 @@ pub fn kernel_texts_are_one()
     ensures { KernelTextsAreOne }
 {}
 
-/// The words of a kernel ask for it, where they ask for anything.
+/// The words of a kernel ask for it, if they ask for anything.
 pub fn kernel_words_ask()
     ensures { KernelWordsAsk }
 {}
 
-/// The words of a comparison ask for it, where they ask for anything.
+/// The words of a comparison ask for it, if they ask for anything.
 pub fn compare_words_ask()
     ensures { CompareWordsAsk }
 {}
@@ -85,17 +84,18 @@ pub fn comparisons_mean_this()
     ensures { ComparisonsMeanThis }
 {}
 
-/// The sentences are true of empty indexes, and the first is not of a kernel that lacks the package of its index.
+/// The sentences are true of empty indexes, and the first is not of a kernel that lacks the package
+/// of its index.
 pub fn empty_indexes()
     ensures { EmptyIndexes }
 {}
 
-/// Reports on an empty index of which the other sentences are true.
+/// The other sentences are true of some reports on an empty index.
 pub fn true_reports()
     ensures { TrueReports }
 {}
 
-/// Reports of which the sentences are not true, each for one reason.
+/// The sentences are not true of some reports, each wrong for one reason.
 pub fn wrong_reports()
     ensures { WrongReports }
 {}

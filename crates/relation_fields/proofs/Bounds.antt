@@ -7,7 +7,8 @@ use Rattle.deb_version.specs.Grammar.{is_version, is_upstream_byte}
 use Rattle.relation_fields.specs.{declared.relations.Op.{Op}, declared.relations.Op.TheVariants.{Earlier, EarlierEqual, Exactly, LaterEqual, Later}}
 use Rattle.relation_fields.specs.declared.relations.Bound.{Bound}
 use Rattle.relation_fields.specs.Texts.{is_white_byte, is_white, trim_start, trim_both, behind_byte, before_byte, is_operator_byte}
-use Rattle.relation_fields.specs.{Grammar.{op_of, bound_at, bound_of, in_parentheses, restriction_of}, Spelling.{SpellsOp, SpellsBound, SpellsRestriction}}
+use Rattle.relation_fields.specs.{Grammar.{op_of, bound_at, bound_of, in_parentheses, restriction_of}, Spelling.{SpellsOp, SpellsRestriction}}
+use Rattle.relation_fields.proofs.Parts.{BoundParts, restriction_apart, restriction_of_parts}
 use Rattle.relation_fields.proofs.Fronts.{stops, front_passes, front_taken, front_left, list_all-reverse, trim_start-white, trim_start-stops, trim_start-joined, trim_both-around, trim_both-in}
 use Rattle.relation_fields.proofs.Bytes.{stops-from_all, stops-append, fails_at_space, version_no_space, version_no_operator, version_bytes}
 use Rattle.relation_fields.proofs.Ends.{behind_byte-cons, before_byte-push, begins, ends}
@@ -86,7 +87,7 @@ op_bytes text Later e = ap (list_all is_operator_byte) e
 pub white_stops : (p : ℕ → Bool) → p 32 ≡ false → p 9 ≡ false → p 10 ≡ false → (text : List ℕ) → is_white text ≡ true → stops p text ≡ true
 white_stops p a b d text white = stops-from_all p is_white_byte (fails_at_space p a b d) text white
 
-bound_read : (text : List ℕ) (bound : Bound) → SpellsBound text bound → bound_of text ≡ Some bound
+bound_read : (text : List ℕ) (bound : Bound) → BoundParts text bound → bound_of text ≡ Some bound
 unfolding bound_of
 bound_read text bound s =
     let version = bound.version in
@@ -105,7 +106,7 @@ bound_read text bound s =
     trim_both-around s.middle version s.back s.white_middle s.white_back (stops-from_all is_white_byte is_upstream_byte version_no_space version bytes) ending in
     rw (inside, operator, behind, trim, op_read s.operator bound.op s.op, s.version) refl
 
-bound_spelled : (text : List ℕ) (bound : Bound) → bound_of text ≡ Some bound → SpellsBound text bound
+bound_spelled : (text : List ℕ) (bound : Bound) → bound_of text ≡ Some bound → BoundParts text bound
 unfolding bound_of
 bound_spelled text bound e =
     let inside = trim_start text in
@@ -114,7 +115,7 @@ bound_spelled text bound e =
     let op = bind_some (bound_at (trim_both behind)) (op_of (take n inside)) bound e in
     let made = cond_some (is_version (trim_both behind)) (record { op = op.0; version = trim_both behind }) bound op.2 in
     let around = trim_both-in behind in
-    subst (SpellsBound text) made.1 (record {
+    subst (BoundParts text) made.1 (record {
       front = take (prefix_len is_white_byte text) text;
       operator = take n inside;
       middle = around.front;
@@ -130,7 +131,8 @@ bound_spelled text bound e =
 pub restriction_read : (text : List ℕ) (bound : Option Bound) → SpellsRestriction text bound → restriction_of text ≡ Some bound
 unfolding restriction_of
 restriction_read text None e = ap restriction_of e
-restriction_read text (Some bound) s =
+restriction_read text (Some bound) spelled =
+    let s = restriction_apart text bound spelled in
     ap restriction_of s.joined
     ∙ ap (λ o. option_map Some (option_and_then bound_of (option_and_then (before_byte 41) o))) (behind_byte-cons 40 (s.inside ++ 41 ∷ []))
     ∙ ap (λ o. option_map Some (option_and_then bound_of o)) (before_byte-push 41 s.inside)
@@ -143,8 +145,8 @@ restriction_spelled (c ∷ text) bound e =
     let made = map_some Some (option_and_then bound_of (in_parentheses (c ∷ text))) bound e in
     let found = bind_some bound_of (in_parentheses (c ∷ text)) made.0 made.1 in
     let opened = bind_some (before_byte 41) (behind_byte 40 (c ∷ text)) found.0 found.1 in
-    subst (SpellsRestriction (c ∷ text)) made.2 (record {
+    subst (SpellsRestriction (c ∷ text)) made.2 (restriction_of_parts (c ∷ text) made.0 (record {
       inside = found.0;
       spelled = bound_spelled found.0 made.0 found.2;
       joined = begins 40 (c ∷ text) opened.0 opened.1 ∙ ap (λ t. 40 ∷ t) (ends 41 opened.0 found.0 opened.2);
-    })
+    }))

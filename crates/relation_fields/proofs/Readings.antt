@@ -7,9 +7,10 @@ use Rattle.relation_fields.specs.{declared.relations.Op.{Op}, declared.relations
 use Rattle.relation_fields.specs.{declared.relations.Bound.{Bound}, declared.relations.Atom.{Atom}, declared.relations.Provide.{Provide}}
 use Rattle.relation_fields.specs.Texts.{is_white_byte, trim_start, trim_both, behind_byte, is_architecture_byte, pieces}
 use Rattle.relation_fields.specs.Grammar.{restriction_of, begins_architecture, is_architecture, name_at, behind_name, qualifier_at, behind_qualifier, atom_at, atom_of, alternatives_of, version_at, provide_at, provide_of}
-use Rattle.relation_fields.specs.Spelling.{SpellsRestriction, SpellsQualifier, SpellsAtom, SpellsAlternatives, exactly_at, SpellsProvide, Reads}
+use Rattle.relation_fields.specs.Spelling.{SpellsRestriction, SpellsQualifier, SpellsAtom, SpellsAlternatives, SpellsProvide, Reads}
 use Rattle.relation_fields.proofs.Fronts.{stops, front_passes, front_taken, front_left, trim_start-white, trim_start-stops, trim_start-joined, trim_both-around, trim_both-in}
 use Rattle.relation_fields.proofs.{Bytes.{stops-append, name_no_space}, Ends.{behind_byte-cons, behind_byte-stops, begins}}
+use Rattle.relation_fields.proofs.Parts.{atom_apart, atom_of_parts, restriction_apart}
 use Rattle.relation_fields.proofs.Bounds.{bind_some, map_some, white_stops, restriction_read, restriction_spelled}
 
 name_begins : (name rest : List ℕ) → is_name name ≡ true → stops is_white_byte (name ++ rest) ≡ true
@@ -25,11 +26,13 @@ qualifier_begins p at text (Some qualifier) e = ap (stops p) e.0 ∙ ap not at
 
 restriction_begins : (p : ℕ → Bool) → p 40 ≡ false → (text : List ℕ) (bound : Option Bound) → SpellsRestriction text bound → stops p text ≡ true
 restriction_begins p at text None e = ap (stops p) e
-restriction_begins p at text (Some bound) s = ap (stops p) s.joined ∙ ap not at
+restriction_begins p at text (Some bound) s = ap (stops p) (restriction_apart text bound s).joined ∙ ap not at
 
 restriction_ends : (text : List ℕ) (bound : Option Bound) → SpellsRestriction text bound → stops is_white_byte (reverse text) ≡ true
 restriction_ends text None e = ap (λ t. stops is_white_byte (reverse t)) e
-restriction_ends text (Some bound) s = ap (λ t. stops is_white_byte (reverse t)) s.joined ∙ ap (stops is_white_byte) (reverse-append (40 ∷ s.inside) (41 ∷ []))
+restriction_ends text (Some bound) spelled =
+    let s = restriction_apart text bound spelled in
+    ap (λ t. stops is_white_byte (reverse t)) s.joined ∙ ap (stops is_white_byte) (reverse-append (40 ∷ s.inside) (41 ∷ []))
 
 qualifier_test : (text : List ℕ) (qualifier : Option (List ℕ)) → SpellsQualifier text qualifier → option_map_or is_architecture qualifier true ≡ true
 qualifier_test text None e = refl
@@ -78,7 +81,8 @@ qualified-by text (Some behind) e test =
 
 pub atom_read : (text : List ℕ) (atom : Atom) → SpellsAtom text atom → atom_of text ≡ Some atom
 unfolding atom_of name_at behind_name
-atom_read text atom s =
+atom_read text atom spelled =
+    let s = atom_apart text atom spelled in
     let tail = s.middle ++ (s.restriction ++ s.back) in
     let rest = s.qualifier ++ tail in
     let stop : (p : ℕ → Bool) → p 32 ≡ false → p 9 ≡ false → p 10 ≡ false → p 40 ≡ false → stops p tail ≡ true = λ p a b d open_at.
@@ -115,7 +119,7 @@ atom_spelled text atom e =
     let bound = map_some (atom_at name (qualifier_at behind)) (restriction_of (trim_both rest)) atom made.1 in
     let qualifier = qualified-by behind (behind_byte 58 behind) refl tests.1 in
     let around = trim_both-in rest in
-    subst (SpellsAtom text) bound.2 (record {
+    subst (SpellsAtom text) bound.2 (atom_of_parts text (atom_at name (qualifier_at behind) bound.0) (record {
       front = take (prefix_len is_white_byte text) text;
       qualifier = qualifier.qualifier;
       middle = around.front;
@@ -129,7 +133,7 @@ atom_spelled text atom e =
       restricted = restriction_spelled (trim_both rest) bound.0 bound.1;
       joined = trim_start-joined text ∙ ap (λ t. take (prefix_len is_white_byte text) text ++ t)
           (sym (take-append-drop n front) ∙ ap (λ t. name ++ t) (qualifier.joined ∙ ap (λ t. qualifier.qualifier ++ t) around.joined));
-    })
+    }))
 
 pub atoms_read : Reads atom_of SpellsAtom
 atoms_read text atom = (atom_spelled text atom, atom_read text atom)
@@ -170,6 +174,10 @@ alternatives_read text atoms =
           let test = each_tested atom_of SpellsAtom atoms_read texts atoms each in
           rw test (ap (λ xs. Some xs) (each_found atom_of SpellsAtom atoms_read texts atoms each))),
     )
+
+-- the bound of a provide, if it has one: its operator is `=`
+abbrev exactly_at : Option (List ℕ) → Option Bound
+exactly_at version = option_map (λ v. record { op = Exactly; version = v }) version
 
 provide_made : (name : List ℕ) (qualifier : Option (List ℕ)) (version : Option (List ℕ))
     → provide_at (record { name = name; qualifier = qualifier; bound = exactly_at version }) (exactly_at version) ≡ Some (record { name = name; qualifier = qualifier; version = version })

@@ -26,15 +26,21 @@ op_back LaterEqual = refl
 op_back Later = refl
 
 abbrev op_code : Coded Op
-op_code = code_by (Option (Option (Option Bool))) (coded_option (coded_option (coded_option coded_bool))) op_to op_from op_back
+op_code = code_by (Option (Option (Option Bool)))
+    (coded_option (coded_option (coded_option coded_bool))) op_to op_from op_back
 
 abbrev bound_code : Coded Bound
-bound_code = code_by (Op × List ℕ) (coded× op_code (coded_list coded_ℕ)) (λ b. (b.op, b.version)) (λ p. record { op = p.0; version = p.1 }) (λ _. refl)
+bound_code = code_by (Op × List ℕ) (coded× op_code (coded_list coded_ℕ)) (λ b. (
+  b.op,
+  b.version,
+)) (λ p. record { op = p.0; version = p.1 }) (λ _. refl)
 
 abbrev atom_code : Coded Atom
 atom_code =
-    code_by (List ℕ × (Option (List ℕ) × Option Bound)) (coded× (coded_list coded_ℕ) (coded× (coded_option (coded_list coded_ℕ)) (coded_option bound_code)))
-    (λ a. (a.name, (a.qualifier, a.bound))) (λ p. record { name = p.0; qualifier = p.1.0; bound = p.1.1 }) (λ _. refl)
+    code_by (List ℕ × (Option (List ℕ) × Option Bound)) (coded× (coded_list coded_ℕ)
+    (coded× (coded_option (coded_list coded_ℕ)) (coded_option bound_code)))
+    (λ a. (a.name, (a.qualifier, a.bound))) (λ p.
+    record { name = p.0; qualifier = p.1.0; bound = p.1.1 }) (λ _. refl)
 
 pub elements-prop : (one other : List (List Atom)) → IsProp (one ≡ other)
 elements-prop one other = Coded-set (coded_list (coded_list atom_code)) one other

@@ -1,4 +1,4 @@
--- The elements of many packages, of which equal ones are kept once.
+-- The elements of many packages; equal ones are kept once.
 use Rattle.std.specs.Prelude.{ℕ, ◌<◌, ◌^◌, List, length, vec_len, vec_capacity}
 use Rattle.relation_fields.specs.{declared.relations.Atom.{Atom}, declared.shared.SharedElements.{SharedElements}, Shared.{marked}}
 

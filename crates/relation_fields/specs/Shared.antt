@@ -13,16 +13,21 @@ pub record AreMarked {A : Type 0} (distinct : List (List A)) (marks : List ℕ) 
   pub each : (place : ℕ) → place < length distinct → has marks place ≡ true
 
 -- This fact has one proof at most, so that a value may keep it.
-pub AreMarked-prop : {A : Type 0} (distinct : List (List A)) (marks : List ℕ) → IsProp (AreMarked distinct marks)
+pub AreMarked-prop : {A : Type 0} (distinct : List (List A)) (marks : List ℕ) →
+    IsProp (AreMarked distinct marks)
 AreMarked-prop distinct marks =
-    let within : (k : ℕ) → k < length marks → IsProp (slice_index_or marks k 0 < length distinct) = λ k l. le_prop in
-    let each : (place : ℕ) → place < length distinct → IsProp (has marks place ≡ true) = λ place l. Coded-set coded_bool (has marks place) true in
+    let within : (k : ℕ) → k < length marks →
+    IsProp (slice_index_or marks k 0 < length distinct) = λ k l. le_prop in
+    let each : (place : ℕ) → place < length distinct → IsProp (has marks place ≡ true) =
+    λ place l. Coded-set coded_bool (has marks place) true in
     hlevel (within, each)
 
--- A list behind another one, in no step and in two.
+-- A list that is appended to another one, in no step and in two.
 pub none_behind : {A : Type 0} (xs : List A) → xs ≡ xs ++ []
 none_behind [] = refl
 none_behind (x ∷ xs) = ap (λ ys. x ∷ ys) (none_behind xs)
 
-pub behind_both : {A : Type 0} (first second third said more : List A) → second ≡ first ++ said → third ≡ second ++ more → third ≡ first ++ (said ++ more)
-behind_both first second third said more e f = f ∙ ap (λ xs. xs ++ more) e ∙ append_assoc first said more
+pub behind_both : {A : Type 0} (first second third said more : List A) → second ≡ first ++ said →
+    third ≡ second ++ more → third ≡ first ++ (said ++ more)
+behind_both first second third said more e f =
+    f ∙ ap (λ xs. xs ++ more) e ∙ append_assoc first said more

@@ -10,19 +10,21 @@ use Rattle.relation_fields.specs.{declared.texts.ByteKind.{ByteKind}, declared.t
 abbrev pub is_white : List ℕ → Bool
 is_white text = list_all is_white_byte text
 
--- what stands behind the byte, where the text begins with it
+-- what follows the byte, if the text begins with it
 abbrev pub behind_byte : ℕ → List ℕ → Option (List ℕ)
-behind_byte c text = if nat_lt 0 (length text) && slice_index text 0 == c then Some (drop 1 text) else None
+behind_byte c text =
+    if nat_lt 0 (length text) && slice_index text 0 == c then Some (drop 1 text) else None
 
--- what stands before the byte, where the text ends with it
+-- what is before the byte, if the text ends with it
 abbrev pub before_byte : ℕ → List ℕ → Option (List ℕ)
-before_byte c text = if nat_lt 0 (length text) && slice_index text (length text - 1) == c then Some (take (length text - 1) text) else None
+before_byte c text = if nat_lt 0 (length text) && slice_index text (length text - 1) == c
+    then Some (take (length text - 1) text) else None
 
--- the pieces between the bytes of one value, of which there is one more than of those bytes
+-- the pieces between the bytes of one value: one more than these bytes
 abbrev pub pieces : ℕ → List ℕ → List (List ℕ)
 pieces c text = slice_split (λ x. x == c) text
 
--- the pieces of what is left, where something is left
+-- the pieces of what is left, if something is left
 abbrev pub pieces_left : ℕ → Option (List ℕ) → List (List ℕ)
 pieces_left c None = []
 pieces_left c (Some text) = pieces c text

@@ -2,13 +2,13 @@
 use Rattle.std.proofs.Common.{◌≡◌, ◌∙◌, ◌<◌, ◌≤◌, ◌+◌, ◌-◌, ℕ, zero, suc, refl, sym, ap, List, [], ◌∷◌, ◌++◌, length, append_assoc, append-nil, arith}
 use Rattle.std.proofs.Math.Nat.{mod-lt}
 use Rattle.std.specs.List.{AllByRecursion}
-use Rattle.sample_suite.specs.Drawing.{Drawn, draw, draws, with_first}
+use Rattle.sample_suite.specs.Drawing.{Drawn, draw, draws, drawn_first}
 
 -- what was drawn before, in front of more draws
 abbrev pub behind : {A : Type 0} → List A → Drawn (List A) → Drawn (List A)
 behind before more = record { value = before ++ more.value; state = more.state }
 
-pub draws_first : {A : Type 0} (one : ℕ → Drawn A) (n s : ℕ) → draws one (suc n) s ≡ with_first (one s).value (draws one n (one s).state)
+pub draws_first : {A : Type 0} (one : ℕ → Drawn A) (n s : ℕ) → draws one (suc n) s ≡ drawn_first (one s).value (draws one n (one s).state)
 unfolding draws
 draws_first one n s = refl
 

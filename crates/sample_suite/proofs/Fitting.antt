@@ -4,7 +4,7 @@ use Rattle.std.proofs.lemmas.List.{length-append}
 use Rattle.std.specs.List.{AllByRecursion}
 use Rattle.repo_model.specs.{FirstFault.{first_fault}, Limits.{most_bytes, most_packages}}
 use Rattle.sample_suite.specs.{declared.package.SamplePackage.{SamplePackage}, Drawing.{IsCount, sample_packages}}
-use Rattle.sample_suite.specs.SampleText.{conflicts_lines, depends_lines, element_text, lines_text, needs_text, package_name, sample_text, stanza_lines, stanza_text, stanzas_text}
+use Rattle.sample_suite.specs.SampleText.{conflicts_lines, depends_lines, element_text, with_feeds, needs_text, package_name, sample_text, stanza_lines, stanza_text, stanzas_text}
 use Rattle.sample_suite.proofs.{Accepting.{stanzas_accepted}, DrawnPackages.{IsElement, IsPackage, IsConflict, length-sample_packages, packages_drawn}}
 use Rattle.sample_suite.proofs.{Names.{IsSmall}, SampleLines.{AreSmall, IsSmallConflict}, SampleStanzas.{IsFit}, Values.{AreFilled}}
 
@@ -63,7 +63,7 @@ module _ (count : ℕ) (low : count ≤ most_packages) where
       omega (arith, x, y, j, k)
   short_element (a ∷ b ∷ c ∷ more) is = let few = is.few in absurd (omega (arith, few))
 
-  short_needs : (elements : List (List ℕ)) → AllByRecursion (IsElement count) elements → length elements ≤ 2 → length (lines_text (depends_lines elements)) ≤ 46
+  short_needs : (elements : List (List ℕ)) → AllByRecursion (IsElement count) elements → length elements ≤ 2 → length (with_feeds (depends_lines elements)) ≤ 46
   short_needs [] all few = omega arith
   short_needs (d ∷ []) all few =
       let x = short_element d all.0 in
@@ -81,7 +81,7 @@ module _ (count : ℕ) (low : count ≤ most_packages) where
       omega (arith, x, y, h, i, j, k)
   short_needs (d ∷ e ∷ f ∷ more) all few = absurd (omega (arith, few))
 
-  short_conflict : (conflict : Option ℕ) → IsConflict count conflict → length (lines_text (conflicts_lines conflict)) ≤ 19
+  short_conflict : (conflict : Option ℕ) → IsConflict count conflict → length (with_feeds (conflicts_lines conflict)) ≤ 19
   short_conflict None h = omega arith
   short_conflict (Some conflict) h =
       let x = short_name conflict h in
@@ -89,12 +89,12 @@ module _ (count : ℕ) (low : count ≤ most_packages) where
       let k = length-append ((codes "Conflicts: " ++ package_name conflict) ++ 10 ∷ []) [] in
       omega (arith, x, j, k)
 
-  lines_append : (xs ys : List (List ℕ)) → length (lines_text (xs ++ ys)) ≡ length (lines_text xs) + length (lines_text ys)
+  lines_append : (xs ys : List (List ℕ)) → length (with_feeds (xs ++ ys)) ≡ length (with_feeds xs) + length (with_feeds ys)
   lines_append [] ys = omega arith
   lines_append (line ∷ xs) ys =
       let h = lines_append xs ys in
-      let j = length-append (line ++ 10 ∷ []) (lines_text (xs ++ ys)) in
-      let k = length-append (line ++ 10 ∷ []) (lines_text xs) in
+      let j = length-append (line ++ 10 ∷ []) (with_feeds (xs ++ ys)) in
+      let k = length-append (line ++ 10 ∷ []) (with_feeds xs) in
       omega (arith, h, j, k)
 
   short_stanza : (n : ℕ) (p : SamplePackage) → n < count → IsPackage count p → length (stanza_text n p) ≤ 94
@@ -104,9 +104,9 @@ module _ (count : ℕ) (low : count ≤ most_packages) where
       let z = short_conflict p.conflict is.conflict in
       let both = lines_append (depends_lines p.needs) (conflicts_lines p.conflict) in
       let i = length-append (codes "Package: " ++ package_name n) (10 ∷ []) in
-      let j = length-append ((codes "Package: " ++ package_name n) ++ 10 ∷ []) (lines_text (codes "Version: 1" ∷ (depends_lines p.needs ++ conflicts_lines p.conflict))) in
-      let k = length-append (codes "Version: 1" ++ 10 ∷ []) (lines_text (depends_lines p.needs ++ conflicts_lines p.conflict)) in
-      let m = length-append (lines_text (stanza_lines n p)) (10 ∷ []) in
+      let j = length-append ((codes "Package: " ++ package_name n) ++ 10 ∷ []) (with_feeds (codes "Version: 1" ∷ (depends_lines p.needs ++ conflicts_lines p.conflict))) in
+      let k = length-append (codes "Version: 1" ++ 10 ∷ []) (with_feeds (depends_lines p.needs ++ conflicts_lines p.conflict)) in
+      let m = length-append (with_feeds (stanza_lines n p)) (10 ∷ []) in
       omega (arith, x, y, z, both, i, j, k, m)
 
   short_stanzas : (n : ℕ) (all : List SamplePackage) → n + length all ≤ count → AllByRecursion (IsPackage count) all → length (stanzas_text n all) ≤ 94 * length all

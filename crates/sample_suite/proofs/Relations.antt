@@ -4,7 +4,7 @@ use Rattle.std.proofs.{lemmas.Bool.{and_parts, not-true, ne_eqb}, lemmas.Iterato
 use Rattle.std.specs.{List.{AllByRecursion, AllZip, flat_map, onto_first, position, position_from, slice_split}, Option.{is_none, option_map}}
 use Rattle.relation_fields.specs.{declared.relations.Atom.{Atom}, Fields.{elements, first_outside, is_outside}, Grammar.{alternatives_of, atom_of}}
 use Rattle.relation_fields.specs.{Spelling.{SpellsAtom}, Texts.{is_white}}
-use Rattle.relation_fields.proofs.Readings.{alternatives_read, atom_read}
+use Rattle.relation_fields.proofs.{Parts.{atom_of_parts}, Readings.{alternatives_read, atom_read}}
 use Rattle.sample_suite.specs.SampleText.{element_text, joined_by, needs_text, package_name}
 use Rattle.sample_suite.proofs.{Names.{IsSmall, free_both, is_free, name_free, name_named}, SampleLines.{AreSmall, element_free}, Values.{AreFilled}}
 
@@ -69,7 +69,7 @@ named n = record { name = package_name n; qualifier = None; bound = None }
 
 -- a name with white space around it is an atom
 padded : (front back : List ℕ) (n : ℕ) → is_white front ≡ true → is_white back ≡ true → IsSmall n → SpellsAtom ((front ++ package_name n) ++ back) (named n)
-padded front back n f b small = record {
+padded front back n f b small = atom_of_parts ((front ++ package_name n) ++ back) (named n) (record {
   front = front;
   qualifier = [];
   middle = back;
@@ -82,7 +82,7 @@ padded front back n f b small = record {
   qualified = refl;
   restricted = refl;
   joined = append_assoc front (package_name n) back ∙ ap (λ xs. front ++ (package_name n ++ xs)) (sym (append-nil back));
-}
+})
 
 padded_front : (front : List ℕ) (n : ℕ) → is_white front ≡ true → IsSmall n → SpellsAtom (front ++ package_name n) (named n)
 padded_front front n f small = subst (λ xs. SpellsAtom xs (named n)) (append-nil (front ++ package_name n)) (padded front [] n f refl small)

@@ -4,7 +4,7 @@ use Rattle.std.proofs.lemmas.Bool.{and_parts, not-true, ne_eqb}
 use Rattle.std.specs.{Prelude.{⊤}, List.{AllByRecursion, flat_map}}
 use Rattle.stanza_reader.specs.Lines.{is_line_feed, lines}
 use Rattle.sample_suite.specs.declared.package.SamplePackage.{SamplePackage}
-use Rattle.sample_suite.specs.SampleText.{conflicts_lines, depends_lines, element_text, joined_by, lines_text, needs_text, package_name, stanza_lines, stanza_text}
+use Rattle.sample_suite.specs.SampleText.{conflicts_lines, depends_lines, element_text, joined_by, with_feeds, needs_text, package_name, stanza_lines, stanza_text}
 use Rattle.sample_suite.proofs.Names.{IsSmall, free_both, is_free, name_free}
 
 abbrev is_clean : List ℕ → Bool
@@ -20,10 +20,10 @@ one_line (b ∷ bs) rest h =
 abbrev AllClean : List (List ℕ) → Type 0
 AllClean all = AllByRecursion (λ line. is_clean line ≡ true) all
 
-some_lines : (all : List (List ℕ)) (rest : List ℕ) → AllClean all → lines (lines_text all ++ rest) ≡ all ++ lines rest
+some_lines : (all : List (List ℕ)) (rest : List ℕ) → AllClean all → lines (with_feeds all ++ rest) ≡ all ++ lines rest
 some_lines [] rest h = refl
 some_lines (line ∷ more) rest h =
-    ap lines (append_assoc (line ++ 10 ∷ []) (lines_text more) rest) ∙ one_line line (lines_text more ++ rest) h.0 ∙ ap (λ ls. line ∷ ls) (some_lines more rest h.1)
+    ap lines (append_assoc (line ++ 10 ∷ []) (with_feeds more) rest) ∙ one_line line (with_feeds more ++ rest) h.0 ∙ ap (λ ls. line ∷ ls) (some_lines more rest h.1)
 
 -- ---- the texts of a stanza have no line feed
 
@@ -75,7 +75,7 @@ all_append P (x ∷ xs) ys h k = (h.0, all_append P xs ys h.1 k)
 -- the lines of a text that begins with a stanza
 pub stanza_cut : (n : ℕ) (p : SamplePackage) (rest : List ℕ) → IsSmall n → AreSmall p.needs → IsSmallConflict p.conflict → lines (stanza_text n p ++ rest) ≡ stanza_lines n p ++ ([] ∷ lines rest)
 stanza_cut n p rest small needs conflict =
-    ap lines (append_assoc (lines_text (stanza_lines n p)) (10 ∷ []) rest)
+    ap lines (append_assoc (with_feeds (stanza_lines n p)) (10 ∷ []) rest)
     ∙ some_lines (stanza_lines n p) (10 ∷ rest) (
       free_both is_line_feed (codes "Package: ") (package_name n) refl (clean_name n small),
       (refl, all_append (λ line. is_clean line ≡ true) (depends_lines p.needs) (conflicts_lines p.conflict) (clean_depends p.needs needs) (clean_conflicts p.conflict conflict)),

@@ -18,13 +18,13 @@ draw below state =
     record { value = (next_state state / 8589934592) % below; state = next_state state }
 
 -- one draw before others
-abbrev pub with_first : {A : Type 0} → A → Drawn (List A) → Drawn (List A)
-with_first first more = record { value = first ∷ more.value; state = more.state }
+abbrev pub drawn_first : {A : Type 0} → A → Drawn (List A) → Drawn (List A)
+drawn_first first more = record { value = first ∷ more.value; state = more.state }
 
 -- a number of draws, one after another
 unfoldable pub draws : {A : Type 0} → (ℕ → Drawn A) → ℕ → ℕ → Drawn (List A)
 draws one zero state = record { value = []; state = state }
-draws one (suc n) state = with_first (one state).value (draws one n (one state).state)
+draws one (suc n) state = drawn_first (one state).value (draws one n (one state).state)
 
 -- one or two alternatives, each the number of a package
 abbrev pub draw_element : ℕ → ℕ → Drawn (List ℕ)

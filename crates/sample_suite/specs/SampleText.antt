@@ -32,11 +32,11 @@ stanza_lines number p = (codes "Package: " ++ package_name number) ∷ codes "Ve
     ∷ (depends_lines p.needs ++ conflicts_lines p.conflict)
 
 -- lines, each with its line feed
-abbrev pub lines_text : List (List ℕ) → List ℕ
-lines_text lines = flat_map (λ line. line ++ 10 ∷ []) lines
+abbrev pub with_feeds : List (List ℕ) → List ℕ
+with_feeds lines = flat_map (λ line. line ++ 10 ∷ []) lines
 
 abbrev pub stanza_text : ℕ → SamplePackage → List ℕ
-stanza_text number p = lines_text (stanza_lines number p) ++ 10 ∷ []
+stanza_text number p = with_feeds (stanza_lines number p) ++ 10 ∷ []
 
 -- the stanzas of packages, numbered from the first one's number on
 unfoldable pub stanzas_text : ℕ → List SamplePackage → List ℕ

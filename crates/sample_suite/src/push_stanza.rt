@@ -1,6 +1,6 @@
 //! The stanza of a package, appended to a text.
 ghost use Rattle.std.specs.{Prelude.{◌≡◌, ◌++◌, ◌∷◌, [], OnOk, codes, map}, List.{flat_map}};
-ghost use Rattle.sample_suite.specs.SampleText.{conflicts_lines, depends_lines, element_text, joined_by, lines_text, needs_text, package_name, stanza_text};
+ghost use Rattle.sample_suite.specs.SampleText.{conflicts_lines, depends_lines, element_text, joined_by, with_feeds, needs_text, package_name, stanza_text};
 
 use crate::package::SamplePackage;
 use clause_pool::NumList;
@@ -50,7 +50,7 @@ fn push_alternative(out: &mut Vec<u8>, number: u32) -> Result<(), AllocError>
 
 // Appends the line of what is needed, if anything is.
 fn push_depends(out: &mut Vec<u8>, needs: &[NumList]) -> Result<(), AllocError>
-    ensures { OnOk result (out.new.items ≡ out.old.items ++ lines_text (depends_lines needs.now)) }
+    ensures { OnOk result (out.new.items ≡ out.old.items ++ with_feeds (depends_lines needs.now)) }
 {
     if needs.is_empty() {
         return Ok(());
@@ -94,7 +94,7 @@ fn push_next_element(out: &mut Vec<u8>, alternatives: &[u32]) -> Result<(), Allo
 
 // Appends the line of a conflict, if there is one.
 fn push_conflicts(out: &mut Vec<u8>, conflict: Option<u32>) -> Result<(), AllocError>
-    ensures { OnOk result (out.new.items ≡ out.old.items ++ lines_text (conflicts_lines conflict)) }
+    ensures { OnOk result (out.new.items ≡ out.old.items ++ with_feeds (conflicts_lines conflict)) }
 {
     let Some(conflict) = conflict else {
         return Ok(());

@@ -1,5 +1,6 @@
-//! Runs over files and streams in memory, of which chosen calls fail, or which give a byte or seven at a time, against answers that were worked out
-//! by hand. Whole commands on files that can be read stand in `conformance/cases`. Each function has few owned values, since each of its `?` drops
+//! Runs over files and streams in memory, against answers that were worked out by hand. In some of
+//! them chosen calls fail, or give a byte or seven at a time. Whole commands on files that can be
+//! read are in `conformance/cases`. Each function has few owned values, since each of its `?` drops
 //! them all.
 use byte_flow::{MemShelf, MemSink};
 use coinst_run::run;
@@ -12,17 +13,20 @@ const EMPTY_KERNEL: &str = "coinst-kernel 1\nend 0 0\n";
 
 const ONE_KERNEL: &str = "coinst-kernel 1\nclass 0\nmember a 1\nend 1 1\n";
 
-/// The files of each shelf: an empty one, one with a fault of its lines and one of a relation, one of a row with two clauses, one of
-/// three packages that stand alone and one in which the first of them needs one of the two others and these conflict, a status
-/// file and a stored kernel; an index as an archive writes it; lines that are blank or are not, a package that stands twice, and two
-/// architectures. `N` is not there.
+/// The files of each shelf. `E` is empty, `X` has a fault of its lines, and `R` one of a relation.
+/// `T` has a row with two clauses. `O` has three packages that need nothing. In `I` the first of
+/// them needs one of the two others, and these conflict. `S` is a status file, and `K` a stored
+/// kernel. `A` is an index as an archive writes it. `B` only has blank lines, and `L` a line that
+/// is not blank. `D` has a package twice, and `M` two architectures. There is no `N`.
 const FILES: [(&str, &str); 13] = [
     ("E", ""),
     ("X", "x"),
     ("R", "Package: a\nVersion: 1\nProvides: x (>> 1)\n"),
     (
         "T",
-        "Package: a\nVersion: 1\nDepends: b, c\n\nPackage: b\nVersion: 1\n\nPackage: c\nVersion: 1\n\n",
+        "Package: a\nVersion: 1\nDepends: b, c\n\n\
+         Package: b\nVersion: 1\n\n\
+         Package: c\nVersion: 1\n\n",
     ),
     (
         "O",
@@ -30,7 +34,9 @@ const FILES: [(&str, &str); 13] = [
     ),
     (
         "I",
-        "Package: a\nVersion: 1\nDepends: b | c\n\nPackage: b\nVersion: 1\nConflicts: c\n\nPackage: c\nVersion: 1\n\n",
+        "Package: a\nVersion: 1\nDepends: b | c\n\n\
+         Package: b\nVersion: 1\nConflicts: c\n\n\
+         Package: c\nVersion: 1\n\n",
     ),
     (
         "S",
@@ -39,7 +45,11 @@ const FILES: [(&str, &str); 13] = [
     ("K", ONE_KERNEL),
     (
         "A",
-        "Package: hello\nVersion: 2.10-3\nArchitecture: amd64\nMulti-Arch: foreign\nDepends: libc6 (>= 2.14), python3:any (>= 3.5~)\nDescription: example\n .\n It is an example.\n\nPackage: libc6\nVersion: 2.36-9+deb12u4\nArchitecture: amd64\n\nPackage: python3\nVersion: 3.11.2-1+b1\nArchitecture: all",
+        "Package: hello\nVersion: 2.10-3\nArchitecture: amd64\nMulti-Arch: foreign\n\
+         Depends: libc6 (>= 2.14), python3:any (>= 3.5~)\n\
+         Description: example\n .\n It is an example.\n\n\
+         Package: libc6\nVersion: 2.36-9+deb12u4\nArchitecture: amd64\n\n\
+         Package: python3\nVersion: 3.11.2-1+b1\nArchitecture: all",
     ),
     ("B", "\n \n\n\t\n"),
     ("L", " x\n"),
@@ -49,16 +59,18 @@ const FILES: [(&str, &str); 13] = [
     ),
     (
         "M",
-        "Package: a\nVersion: 1\nArchitecture: amd64\n\nPackage: b\nVersion: 1\nArchitecture: arm64\n",
+        "Package: a\nVersion: 1\nArchitecture: amd64\n\n\
+         Package: b\nVersion: 1\nArchitecture: arm64\n",
     ),
 ];
 
-/// The words, and then the status, the report and the line, where no call fails.
+/// The words, and then the status, the report and the line, if no call fails.
 const ANSWERS: [(&str, u8, &str, &str); 18] = [
     (
         "kernel A",
         0,
-        "coinst-kernel 1\nclass 0\nmember hello 2.10-3\nmember libc6 2.36-9+deb12u4\nmember python3 3.11.2-1+b1\nend 1 3\n",
+        "coinst-kernel 1\nclass 0\nmember hello 2.10-3\nmember libc6 2.36-9+deb12u4\n\
+         member python3 3.11.2-1+b1\nend 1 3\n",
         "",
     ),
     ("kernel B", 0, EMPTY_KERNEL, ""),
@@ -74,7 +86,8 @@ const ANSWERS: [(&str, u8, &str, &str); 18] = [
     (
         "kernel I",
         0,
-        "coinst-kernel 1\nclass 0\nmember a 1\nclass 1\nmember b 1\nagainst 2\nclass 2\nmember c 1\nend 3 3\n",
+        "coinst-kernel 1\nclass 0\nmember a 1\nclass 1\nmember b 1\nagainst 2\nclass 2\n\
+         member c 1\nend 3 3\n",
         "",
     ),
     ("query I b c", 1, "no\nlog\n", ""),
@@ -105,8 +118,8 @@ const ANSWERS: [(&str, u8, &str, &str); 18] = [
     ("query I a zz", 9, "", "goal 2 is unknown: zz\n"),
 ];
 
-/// The words, the call of the shelf that fails, and then the status, the report and the line. Each of these files takes three calls
-/// when all is read at once.
+/// The words, the call of the shelf that fails, and then the status, the report and the line. Each
+/// of these files takes three calls when all is read at once.
 const READS: [(&str, u64, u8, &str, &str); 17] = [
     (
         "sample 7 1",
@@ -139,8 +152,8 @@ const READS: [(&str, u64, u8, &str, &str); 17] = [
     ),
 ];
 
-/// The words, the writes of standard output and of standard error that fail, 0 for none, and then the status, the report and the
-/// line.
+/// The words, the writes of standard output and of standard error that fail, 0 for none, and then
+/// the status, the report and the line.
 const WRITES: [(&str, u64, u64, u8, &str, &str); 9] = [
     ("kernel E", 1, 0, 6, "", "write failed after 0 bytes\n"),
     (
@@ -167,8 +180,8 @@ const WRITES: [(&str, u64, u64, u8, &str, &str); 9] = [
     ("kernel N", 0, 1, 5, "", ""),
 ];
 
-/// The calls of the shelf, of standard output and of standard error that fail, 0 for none, and the bytes that the shelf gives at a
-/// time.
+/// The calls of the shelf, of standard output and of standard error that fail, 0 for none, and the
+/// bytes that the shelf gives at a time.
 #[derive(Clone, Copy)]
 struct Given {
     read: u64,
@@ -177,7 +190,8 @@ struct Given {
     step: u32,
 }
 
-/// The status, the report and the line that are wanted of a run, and what it is called where it gives others.
+/// The status, the report and the line that are wanted of a run, and what the run is called if it
+/// gives others.
 #[derive(Clone, Copy)]
 struct Wanted<'a> {
     code: u8,
@@ -220,7 +234,8 @@ fn check_taken(rt: &impl Abort, stream: &MemSink, wanted: &str, told: &str) {
     assert!(rt; stream.taken() == wanted.as_bytes(), "{told}");
 }
 
-/// The status of a run, in a function that does nothing else, since all that `run` promises is carried to its end.
+/// The status of a run, in a function that does nothing else, since all that `run` promises is
+/// carried to its end.
 fn status_of(
     alloc: Global,
     words: &[String],

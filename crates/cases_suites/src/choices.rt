@@ -1,4 +1,5 @@
-//! Which packages of a small suite have a name, and which can be installed together by trying every set. No command asks either.
+//! Which packages of a small suite have a name, and which can be installed together by trying every
+//! set. No command asks either.
 use crate::samples::suite_of;
 use repo_model::{Suite, are_coinstallable};
 use std::alloc::AllocError;
@@ -6,8 +7,10 @@ use std::process::Abort;
 use std::test::Fail;
 
 /// Package 0 needs 1 or 2, which are versions of one name, and conflicts with 3.
-const CHOICE: &str =
-    "Package: a\nVersion: 1\nDepends: b\nConflicts: c\n\nPackage: b\nVersion: 1\n\nPackage: b\nVersion: 2\n\nPackage: c\nVersion: 1\n";
+const CHOICE: &str = "Package: a\nVersion: 1\nDepends: b\nConflicts: c\n\n\
+     Package: b\nVersion: 1\n\n\
+     Package: b\nVersion: 2\n\n\
+     Package: c\nVersion: 1\n";
 
 fn check_choice(
     rt: &(impl Abort + AllocGlobal),

@@ -14,12 +14,19 @@ use std::process::Abort;
 use std::test::Fail;
 
 /// Three packages, each a class of its own; the last two conflict.
-const THREE: &str =
-    "Package: a\nVersion: 1\nDepends: b | c\n\nPackage: b\nVersion: 1\nConflicts: c\n\nPackage: c\nVersion: 1\n";
+const THREE: &str = "Package: a\nVersion: 1\nDepends: b | c\n\n\
+     Package: b\nVersion: 1\nConflicts: c\n\n\
+     Package: c\nVersion: 1\n";
 
-/// Package 0 wants one of each of three pairs, and no three of these go together; each is a class of its own.
-const TANGLE: &str =
-    "Package: p\nVersion: 1\nDepends: x1 | x2, y1 | y2, z1 | z2\n\nPackage: x1\nVersion: 1\nConflicts: y1, z1\n\nPackage: x2\nVersion: 1\nConflicts: y2, z2\n\nPackage: y1\nVersion: 1\nConflicts: z1\n\nPackage: y2\nVersion: 1\nConflicts: z2\n\nPackage: z1\nVersion: 1\n\nPackage: z2\nVersion: 1\n";
+/// Package 0 wants one of each of three pairs, and no three of these go together; each is a class
+/// of its own.
+const TANGLE: &str = "Package: p\nVersion: 1\nDepends: x1 | x2, y1 | y2, z1 | z2\n\n\
+     Package: x1\nVersion: 1\nConflicts: y1, z1\n\n\
+     Package: x2\nVersion: 1\nConflicts: y2, z2\n\n\
+     Package: y1\nVersion: 1\nConflicts: z1\n\n\
+     Package: y2\nVersion: 1\nConflicts: z2\n\n\
+     Package: z1\nVersion: 1\n\n\
+     Package: z2\nVersion: 1\n";
 
 /// That class 1 is left out, and that it is chosen.
 const WITHOUT: Literal = Literal {
@@ -32,7 +39,8 @@ const WITH: Literal = Literal {
     positive: true,
 };
 
-/// The classes that are wanted, and a log: an entry for each literal, and the empty entry behind these where it ends.
+/// The classes that are wanted, and a log: an entry for each literal, followed by the empty entry
+/// if it ends.
 #[derive(Clone, Copy)]
 struct Tried<'a> {
     goals: &'a [u32],
@@ -109,7 +117,7 @@ fn is_derived(
     check(alloc, pool, kernel, &goals, &Log { entries })
 }
 
-/// The same over the kernel of an index.
+/// Whether the log derives the empty entry over the kernel of an index and the goals.
 fn is_derived_over(alloc: Global, index: &str, tried: Tried<'_>) -> Result<bool, Fail> {
     let mut pool = Pool::new(alloc)?;
     let kernel = kernel_of(alloc, &mut pool, index)?;

@@ -1,4 +1,5 @@
-//! A plan with both texts at hand, a call that no command makes: the program gives each text back once it was read.
+//! A plan with both texts at hand, a call that no command makes: the program gives each text back
+//! once it was read.
 ghost use Rattle.std.specs.Prelude.{◌≡◌, ◌≤◌, false, length, IfOk};
 ghost use Rattle.repo_model.specs.{Feeding.{IsSuiteOf}, Limits.{most_bytes}};
 
@@ -20,7 +21,8 @@ const LIMIT: u32 = 16;
 /// The view of an index.
 fn view_of(alloc: Global, text: &[u8]) -> Result<SuiteView, AllocError>
     requires { length text.now ≤ most_bytes }
-    ensures suite { IfOk result (λ view. IsSuiteOf text.now view.suite.packages view.suite.home.name) }
+    ensures suite { IfOk result (λ view.
+        IsSuiteOf text.now view.suite.packages view.suite.home.name) }
     ensures limit { IfOk result (λ view. view.limit ≡ 16) }
     ensures hold { IfOk result (λ view. view.kernel.hold ≡ false) }
 {
@@ -38,7 +40,7 @@ fn suite_of(alloc: Global, text: &[u8]) -> Result<Suite, IndexFault>
     read_suite(alloc, text)
 }
 
-/// The name is left, and the one behind it is taken.
+/// The name is left, and the one after it is taken.
 fn check_lines(rt: &impl Abort, plan: &Plan) {
     match plan.lines.as_slice() {
         [

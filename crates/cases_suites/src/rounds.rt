@@ -13,8 +13,12 @@ use std::process::Abort;
 use std::test::Fail;
 
 /// Package 0 depends on 1 or 2, and 1 on 3 or 4; 2, 3 and 4 conflict with 5.
-const DETOUR: &str =
-    "Package: a\nVersion: 1\nDepends: b | c\n\nPackage: b\nVersion: 1\nDepends: d | e\n\nPackage: c\nVersion: 1\nConflicts: f\n\nPackage: d\nVersion: 1\nConflicts: f\n\nPackage: e\nVersion: 1\nConflicts: f\n\nPackage: f\nVersion: 1\n";
+const DETOUR: &str = "Package: a\nVersion: 1\nDepends: b | c\n\n\
+     Package: b\nVersion: 1\nDepends: d | e\n\n\
+     Package: c\nVersion: 1\nConflicts: f\n\n\
+     Package: d\nVersion: 1\nConflicts: f\n\n\
+     Package: e\nVersion: 1\nConflicts: f\n\n\
+     Package: f\nVersion: 1\n";
 
 /// Whether a round changes something, its classes, and how many clauses the pool then has.
 #[derive(Clone, Copy)]
@@ -57,8 +61,8 @@ fn check_round(
     Ok(made)
 }
 
-/// Flattening gives 0 the clause of 2, 3 and 4, which merging makes the clause of their class: the longer one is gone after the
-/// round, and those of the books before stay.
+/// Flattening gives 0 the clause of 2, 3 and 4, which merging makes the clause of their class. The
+/// longer one is gone after the round, and those of the books before stay.
 fn check_first(
     rt: &(impl Abort + AllocGlobal),
     pool: &mut Pool,

@@ -11,11 +11,19 @@ use std::alloc::AllocError;
 use std::process::Abort;
 use std::test::Fail;
 
-/// Package 0 depends on 1, which depends on 2, and on 3 or 4; each of these three has a conflict of its own.
-const CHAIN: &str =
-    "Package: a\nVersion: 1\nDepends: m\n\nPackage: m\nVersion: 1\nDepends: b, c | d\n\nPackage: b\nVersion: 1\nConflicts: e\n\nPackage: c\nVersion: 1\nConflicts: f\n\nPackage: d\nVersion: 1\nConflicts: g\n\nPackage: e\nVersion: 1\n\nPackage: f\nVersion: 1\n\nPackage: g\nVersion: 1\n";
+/// Package 0 depends on 1, which depends on 2, and on 3 or 4; each of these three has a conflict of
+/// its own.
+const CHAIN: &str = "Package: a\nVersion: 1\nDepends: m\n\n\
+     Package: m\nVersion: 1\nDepends: b, c | d\n\n\
+     Package: b\nVersion: 1\nConflicts: e\n\n\
+     Package: c\nVersion: 1\nConflicts: f\n\n\
+     Package: d\nVersion: 1\nConflicts: g\n\n\
+     Package: e\nVersion: 1\n\n\
+     Package: f\nVersion: 1\n\n\
+     Package: g\nVersion: 1\n";
 
-/// The user has the row of what was taken out, nobody names that any more, and both name what it needs.
+/// The user has the row of what was taken out, nobody names that any more, and both name what it
+/// needs.
 fn check_taken(rt: &impl Abort, rows: &[RowId], uses: &UseTable)
     requires { length uses.now ≡ length rows.now }
 {
@@ -43,7 +51,8 @@ fn check_without(
     Ok(())
 }
 
-/// The same in a book in which no two packages are alike: merging makes its rows tidy, and no classes.
+/// Takes package 1 out of a book in which no two packages are alike. Merging makes its rows tidy,
+/// and no classes.
 fn check_merged(
     rt: &(impl Abort + AllocGlobal),
     pool: &mut Pool,

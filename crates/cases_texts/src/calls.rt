@@ -1,6 +1,6 @@
-//! Calls that no command makes: keys of versions, the front of a text that is closed, and fields of relations read by themselves.
-//! How versions compare is what `tool_versions` is run on; faults, and which packages meet an atom, are cases of
-//! `conformance/cases`.
+//! Calls that no command makes: keys of versions, the front of a text that is closed, and fields of
+//! relations read by themselves. How versions compare is what `tool_versions` is run on. Faults,
+//! and which packages meet an atom, are cases of `conformance/cases`.
 use deb_version::Version;
 use relation_fields::{RelationError, parse_against, parse_needs, parse_provides};
 use stanza_reader::closed_front;

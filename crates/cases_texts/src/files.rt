@@ -1,5 +1,5 @@
-//! Files that are read where a call fails or a limit is passed, and real files and streams. Reports that are cut stand in
-//! `cases_commands`.
+//! Readings of files in which a call fails or a limit is passed, and real files and streams.
+//! Reports that are cut are in `cases_commands`.
 use byte_flow::{FileShelf, MemShelf, Shelf, StdSink, WriteError, read_file, write_all};
 use std::alloc::{AllocError, Global};
 use std::fs;
@@ -44,7 +44,7 @@ fn check_bytes<F: Shelf>(
     Ok(())
 }
 
-/// A shelf of one file, where a call fails.
+/// A shelf of one file, in which a call fails.
 fn shelf_of(alloc: Global, call: u64) -> Result<MemShelf, AllocError> {
     let mut shelf = MemShelf::new(alloc, 2);
     shelf.add("a", b"old")?;

@@ -1,4 +1,5 @@
-//! Files, and calls that no command makes: a crate of tests alone, so that what it goes through is not proved once more for them.
+//! Files, and calls that no command makes: a crate of tests alone, so that what it goes through is
+//! not proved once more for them.
 #![tactic(auto)]
 
 #[cfg(test)]

@@ -1,4 +1,5 @@
--- Families of clauses: those apart from a number, the minimal ones, and the order in which they are kept.
+-- Families of clauses: those apart from a number, the minimal ones, and the order in which they are
+-- kept.
 use Rattle.std.specs.{Prelude.{ℕ, Bool, true, false, not, ◌&&◌, ◌||◌, eqb, ltb, cond, List, [], ◌∷◌}, List.{list_all, filter}}
 use Rattle.listed.specs.Lists.{has, is_inside}
 
@@ -20,7 +21,8 @@ comes_before (x ∷ xs) (y ∷ ys) = ltb x y || (eqb x y && comes_before xs ys)
 abbrev pub insert_clause : List ℕ → List (List ℕ) → List (List ℕ)
 insert_clause c [] = c ∷ []
 insert_clause c (d ∷ ds) =
-    cond (comes_before c d) (c ∷ (d ∷ ds)) (cond (comes_before d c) (d ∷ insert_clause c ds) (d ∷ ds))
+    cond (comes_before c d) (c ∷ (d ∷ ds))
+    (cond (comes_before d c) (d ∷ insert_clause c ds) (d ∷ ds))
 
 -- the clauses in lexicographic order, each once
 abbrev pub in_row_order : List (List ℕ) → List (List ℕ)

@@ -1,5 +1,6 @@
-//! Whether a clause of a row lies within some numbers. Rows are in lexicographic order, so those clauses are looked at that
-//! begin with some of the numbers, and no long row is gone over from end to end.
+//! Whether a clause of a row lies within some numbers. Rows are in lexicographic order, so only the
+//! clauses that begin with some of the numbers are looked at. No long row is gone over from end to
+//! end.
 ghost use Rattle.std.specs.{Prelude.{◌≡◌, ◌<◌, ◌≤◌, ◌+◌, ◌||◌, ℕ, drop, filter, length, map, slice_index_or}, Bool.{OnFalse, OnTrue}, List.{list_any}};
 ghost use Rattle.std.specs.Option.{option_map, ForSome};
 ghost use Rattle.clause_pool.specs.{Interned.{clause_at, clauses_at, IsPool, OfPool}, Lists.{InOrder}};
@@ -9,7 +10,7 @@ ghost use Rattle.listed.specs.Lists.{has, In, is_inside, Ascending};
 use crate::{ClauseId, Pool};
 use listed::{holds_ascending, is_inside_ascending};
 
-/// A group of clauses so short that it is gone over.
+/// A group of clauses up to this length is gone over one by one.
 const SHORT: usize = 8;
 
 /// Lends what the clause of the id has from the depth on.
@@ -22,7 +23,8 @@ fn rest_of(pool: &Pool, id: ClauseId, depth: usize) -> &[u32]
     &clause[depth..]
 }
 
-/// Whether the clause of the id is another one than the given one, and has no numbers from the depth on but wanted ones.
+/// Whether the clause of the id is another one than the given one, and has only wanted numbers from
+/// the depth on.
 fn is_within(
     pool: &Pool,
     but: &Option<ClauseId>,
@@ -35,7 +37,8 @@ fn is_within(
     requires wanted { Ascending wanted.now }
     requires id { id < length pool.now.clauses }
     requires deep { depth ≤ length (clause_at pool.now id) }
-    ensures { result ≡ rest_within pool.now (option_map (clause_at pool.now) but.now) depth wanted.now id }
+    ensures { result
+        ≡ rest_within pool.now (option_map (clause_at pool.now) but.now) depth wanted.now id }
 {
     match but {
         Some(other) => id != *other && is_inside_ascending(rest_of(pool, id, depth), wanted),
@@ -43,7 +46,7 @@ fn is_within(
     }
 }
 
-/// Whether this holds of some clause of the group, by a look at each.
+/// Whether `is_within` holds of some clause of the group, by a look at each.
 fn any_within(
     pool: &Pool,
     group: &[ClauseId],
@@ -56,7 +59,8 @@ fn any_within(
     requires deep { (id : ℕ) → In id group.now → depth ≤ length (clause_at pool.now id) }
     requires but { ForSome but.now (λ other. other < length pool.now.clauses) }
     requires wanted { Ascending wanted.now }
-    ensures { result ≡ list_any (rest_within pool.now (option_map (clause_at pool.now) but.now) depth wanted.now) group.now }
+    ensures { result ≡ list_any (rest_within pool.now
+        (option_map (clause_at pool.now) but.now) depth wanted.now) group.now }
 {
     for id in group {
         if is_within(pool, but, depth, wanted, *id) {
@@ -78,13 +82,16 @@ fn goes_on_below(pool: &Pool, id: ClauseId, depth: usize, number: u64) -> bool
     }
 }
 
-/// The place in the group of the first clause that has the number or a greater one at the depth, by halving the group.
+/// The place in the group of the first clause that has the number or a greater one at the depth, by
+/// binary search.
 fn first_by_halves(pool: &Pool, group: &[ClauseId], depth: usize, number: u64) -> usize
     requires group { OfPool pool.now group.now }
     requires order { InOrder (map (rest_at pool.now depth) group.now) }
     ensures within { result ≤ length group.now }
-    ensures before { (k : ℕ) → k < result → lead (rest_at pool.now depth (slice_index_or group.now k 0)) ≤ number }
-    ensures behind { (k : ℕ) → result ≤ k → k < length group.now → number < lead (rest_at pool.now depth (slice_index_or group.now k 0)) }
+    ensures before { (k : ℕ) → k < result →
+        lead (rest_at pool.now depth (slice_index_or group.now k 0)) ≤ number }
+    ensures behind { (k : ℕ) → result ≤ k → k < length group.now →
+        number < lead (rest_at pool.now depth (slice_index_or group.now k 0)) }
 {
     let mut low = 0;
     let mut high = group.len();
@@ -99,14 +106,16 @@ fn first_by_halves(pool: &Pool, group: &[ClauseId], depth: usize, number: u64) -
     low
 }
 
-/// The same place. The ends are looked at first, since mostly all clauses of a group have one number there, or the number lies
-/// before or behind theirs.
+/// The place that `first_by_halves` finds. The ends are looked at first: mostly all clauses of a
+/// group have one number there, or the number is below or above all of theirs.
 fn first_from(pool: &Pool, group: &[ClauseId], depth: usize, number: u64) -> usize
     requires group { OfPool pool.now group.now }
     requires order { InOrder (map (rest_at pool.now depth) group.now) }
     ensures within { result ≤ length group.now }
-    ensures before { (k : ℕ) → k < result → lead (rest_at pool.now depth (slice_index_or group.now k 0)) ≤ number }
-    ensures behind { (k : ℕ) → result ≤ k → k < length group.now → number < lead (rest_at pool.now depth (slice_index_or group.now k 0)) }
+    ensures before { (k : ℕ) → k < result →
+        lead (rest_at pool.now depth (slice_index_or group.now k 0)) ≤ number }
+    ensures behind { (k : ℕ) → result ≤ k → k < length group.now →
+        number < lead (rest_at pool.now depth (slice_index_or group.now k 0)) }
 {
     let size = group.len();
     if size == 0 {
@@ -132,11 +141,13 @@ fn group_of<'a>(pool: &Pool, group: &'a [ClauseId], depth: usize, number: u32) -
     &group[start..end]
 }
 
-/// Whether the last clause of the group, and so each, ends at the depth or has a lesser number there.
+/// Whether the last clause of the group, and so each, ends at the depth or has a lesser number
+/// there.
 fn all_below(pool: &Pool, group: &[ClauseId], depth: usize, number: u32) -> bool
     requires group { OfPool pool.now group.now }
     requires order { InOrder (map (rest_at pool.now depth) group.now) }
-    ensures { OnTrue result ((id : ℕ) → In id group.now → lead (rest_at pool.now depth id) ≤ number) }
+    ensures { OnTrue result ((id : ℕ) → In id group.now →
+        lead (rest_at pool.now depth id) ≤ number) }
 {
     match group.last() {
         Some(last) => goes_on_below(pool, *last, depth, u64::from(number)),
@@ -144,7 +155,7 @@ fn all_below(pool: &Pool, group: &[ClauseId], depth: usize, number: u32) -> bool
     }
 }
 
-/// Lends the numbers behind a place.
+/// Lends the numbers after a place.
 fn numbers_behind(numbers: &[u32], place: usize) -> &[u32]
     requires { place < length numbers.now }
     ensures { result.now ≡ drop (place + 1) numbers.now }
@@ -152,9 +163,10 @@ fn numbers_behind(numbers: &[u32], place: usize) -> &[u32]
     &numbers[place + 1..]
 }
 
-/// Whether some clause of the group, other than the given one, has no numbers from the depth on but wanted ones. The
-/// clauses of a group begin alike up to there: one that ends there comes first, and those that go on alike stand together.
-/// As clauses ascend, each goes on with the wanted numbers behind that which it has at the depth.
+/// Whether some clause of the group, other than the given one, has only wanted numbers from the
+/// depth on. The clauses of a group begin alike up to there. One that ends there comes first, and
+/// those that go on alike are neighbours. Clauses ascend, so each goes on with wanted numbers that
+/// come after the one it has at the depth.
 fn has_rest_within(
     pool: &Pool,
     group: &[ClauseId],
@@ -169,7 +181,8 @@ fn has_rest_within(
     requires but { ForSome but.now (λ other. other < length pool.now.clauses) }
     requires wanted { Ascending wanted.now }
     requires fits { depth + length wanted.now < 18446744073709551616 }
-    ensures { result ≡ list_any (rest_within pool.now (option_map (clause_at pool.now) but.now) depth wanted.now) group.now }
+    ensures { result ≡ list_any (rest_within pool.now
+        (option_map (clause_at pool.now) but.now) depth wanted.now) group.now }
 {
     if group.len() <= SHORT || group.len() <= wanted.len() {
         return any_within(pool, group, depth, but, wanted);
@@ -190,25 +203,27 @@ fn has_rest_within(
     false
 }
 
-/// Whether some clause of the row, other than the given one, lies within the numbers; it takes no memory.
+/// Whether some clause of the row, other than the given one, lies within the numbers.
 pub fn has_within(pool: &Pool, row: &[ClauseId], but: &Option<ClauseId>, numbers: &[u32]) -> bool
     requires pool { IsPool pool.now }
     requires row { OfPool pool.now row.now }
     requires order { InOrder (clauses_at pool.now row.now) }
     requires but { ForSome but.now (λ other. other < length pool.now.clauses) }
     requires numbers { Ascending numbers.now }
-    ensures { result ≡ some_within (option_map (clause_at pool.now) but.now) numbers.now (clauses_at pool.now row.now) }
+    ensures { result ≡ some_within (option_map (clause_at pool.now) but.now) numbers.now
+        (clauses_at pool.now row.now) }
 {
     has_rest_within(pool, row, 0, but, numbers)
 }
 
-/// Whether the package, or a clause of its row, lies within the ascending numbers; it takes no memory.
+/// Whether the package, or a clause of its row, lies within the ascending numbers.
 pub fn has_side_within(pool: &Pool, number: u32, row: &[ClauseId], numbers: &[u32]) -> bool
     requires pool { IsPool pool.now }
     requires row { OfPool pool.now row.now }
     requires order { InOrder (clauses_at pool.now row.now) }
     requires numbers { Ascending numbers.now }
-    ensures { result ≡ (has numbers.now number || list_any (λ e. is_inside e numbers.now) (clauses_at pool.now row.now)) }
+    ensures { result ≡ (has numbers.now number
+        || list_any (λ e. is_inside e numbers.now) (clauses_at pool.now row.now)) }
 {
     holds_ascending(numbers, number) || has_within(pool, row, &None, numbers)
 }

@@ -1,4 +1,5 @@
--- What the propagation stands on: the sentences of goals, clauses and conflicts, and the table of their uses.
+-- What the propagation rests on: the sentences of goals, clauses and conflicts, and the table of
+-- their uses.
 use Rattle.std.specs.Prelude.{◌≡◌, ℕ, ◌*◌, ◌<◌, Bool, false, List, [], ◌++◌, All, length, slice_index_or, Contains, ◌⊎◌}
 use Rattle.listed.specs.Lists.{In}
 use Rattle.row_book.specs.Book.{listed_for}
@@ -6,7 +7,8 @@ use Rattle.search_terms.specs.{declared.literals.Literal.{Literal}, Closure.{neg
 use Rattle.clause_solver.specs.{declared.formula.Formula.{Formula}, declared.table.Use.{Use}}
 
 -- goals, then clauses, then conflicts
-abbrev pub whole_form : List (List Literal) → List (List Literal) → List (List ℕ) → List (List Literal)
+abbrev pub whole_form : List (List Literal) → List (List Literal) →
+    List (List ℕ) → List (List Literal)
 whole_form goals own conflicts = goals ++ (own ++ owned_sentences conflict_sentence 0 conflicts)
 
 -- the sentences of a formula
@@ -43,7 +45,8 @@ Names row k = (u : Use) × Contains row u × (u.sentence ≡ k)
 pub record IsTable (n : ℕ) (uses : List (List Use)) (own : List (List Literal)) : Type 0 where
   pub long : length uses ≡ n * 2
   pub within : All (λ row. All (IsUse own) row) uses
-  pub listed : (k : ℕ) (m : Literal) → k < length own → Contains (slice_index_or own k []) m → Names (slice_index_or uses (flag_place (negation m)) []) k
+  pub listed : (k : ℕ) (m : Literal) → k < length own → Contains (slice_index_or own k []) m →
+      Names (slice_index_or uses (flag_place (negation m)) []) k
 
 -- a list of conflicts for each of n classes, either way round
 pub record ConflictsFit (n : ℕ) (conflicts : List (List ℕ)) : Type 0 where
@@ -52,7 +55,8 @@ pub record ConflictsFit (n : ℕ) (conflicts : List (List ℕ)) : Type 0 where
   pub either_way : (p q : ℕ) → In q (listed_for conflicts p) → In p (listed_for conflicts q)
 
 -- sentences, their table and conflicts of n classes
-pub record IsEngine (n : ℕ) (goals own : List (List Literal)) (uses : List (List Use)) (conflicts : List (List ℕ)) : Type 0 where
+pub record IsEngine (n : ℕ) (goals own : List (List Literal)) (uses : List (List Use))
+    (conflicts : List (List ℕ)) : Type 0 where
   pub goals_ranged : InRange n goals
   pub own_ranged : InRange n own
   pub table : IsTable n uses own
@@ -60,11 +64,16 @@ pub record IsEngine (n : ℕ) (goals own : List (List Literal)) (uses : List (Li
 
 -- so fit the parts of a formula
 abbrev pub IsFormula : ℕ → Formula → Type 0
-IsFormula n formula = IsEngine n formula.goals.now formula.own.now formula.uses.now formula.conflicts.now
+IsFormula n formula =
+    IsEngine n formula.goals.now formula.own.now formula.uses.now formula.conflicts.now
 
--- the sentence of number k is entered under the other sign of each of its literals, and what stood there stays
+-- the sentence of number k is entered under the other sign of each of its literals, and all former
+-- entries stay
 pub record Enters (old new : List (List Use)) (sentence : List Literal) (k : ℕ) : Type 0 where
   pub long : length new ≡ length old
-  pub kept : (p : ℕ) (u : Use) → Contains (slice_index_or old p []) u → Contains (slice_index_or new p []) u
-  pub entered : (m : Literal) → Contains sentence m → Names (slice_index_or new (flag_place (negation m)) []) k
-  pub only : (p : ℕ) (u : Use) → Contains (slice_index_or new p []) u → Contains (slice_index_or old p []) u ⊎ IsUseOf sentence k u
+  pub kept : (p : ℕ) (u : Use) → Contains (slice_index_or old p []) u →
+      Contains (slice_index_or new p []) u
+  pub entered : (m : Literal) → Contains sentence m →
+      Names (slice_index_or new (flag_place (negation m)) []) k
+  pub only : (p : ℕ) (u : Use) → Contains (slice_index_or new p []) u →
+      Contains (slice_index_or old p []) u ⊎ IsUseOf sentence k u

@@ -6,9 +6,10 @@ use Rattle.search_terms.specs.{declared.literals.Literal.{Literal}, Closure.{is_
 abbrev pub set_of_trail : List Literal → Literal → Bool
 set_of_trail trail l = list_any (λ m. is_same m l) trail
 
--- no literal stands twice
+-- no literal is listed twice
 abbrev pub EachOnce : List Literal → Type 0
-EachOnce trail = (k : ℕ) (l : Literal) → slice_get trail k ≡ Some l → set_of_trail (take k trail) l ≡ false
+EachOnce trail = (k : ℕ) (l : Literal) → slice_get trail k ≡ Some l →
+    set_of_trail (take k trail) l ≡ false
 
 -- two flags for each of n classes, up for the literals of the trail
 pub record IsMarked (n : ℕ) (flags : List Bool) (trail : List Literal) : Type 0 where

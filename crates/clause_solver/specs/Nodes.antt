@@ -5,10 +5,11 @@ use Rattle.search_terms.specs.{declared.literals.Literal.{Literal}, Closure.{lit
 use Rattle.search_terms.specs.Marks.{classes_left, true_classes}
 use Rattle.clause_solver.specs.{Marking.{set_of_trail}, declared.nodes.Node.{Node}, declared.table.Use.{Use}, declared.nodes.Node.TheVariants.{Met, Splits}}
 
--- the trail leaves no need open, and so is that of a found leaf; or the node splits on a class, and each branch leaves fewer
--- classes
+-- The trail leaves no need open, and so is that of a found leaf. Or the node splits on a class, and
+-- each branch leaves fewer classes.
 abbrev pub IsNode : ℕ → List (List Literal) → List Literal → List Literal → Node → Type 0
-IsNode classes formula decisions trail Met = IsFoundLeaf classes formula decisions (true_classes classes (set_of_trail trail))
+IsNode classes formula decisions trail Met =
+    IsFoundLeaf classes formula decisions (true_classes classes (set_of_trail trail))
 IsNode classes formula decisions trail (Splits c) =
     IsSplit formula decisions c
     × (c < classes)
@@ -27,11 +28,14 @@ ArePositive goals = All (λ s. All (λ l. l.positive ≡ true) s) goals
 abbrev pub AreFull : List (List Literal) → Type 0
 AreFull formula = All (λ s. (l : Literal) × Contains s l) formula
 
--- of the sentences of a row none below the least is open, and the least is, unless it is the one before
-pub record IsLeastOpen (set : Literal → Bool) (own : List (List Literal)) (row : List Use) (before least : ℕ) : Type 0 where
+-- no sentence of the row below the least place is open, and the one at the least place is, unless
+-- that is `before`
+pub record IsLeastOpen (set : Literal → Bool) (own : List (List Literal)) (row : List Use)
+    (before least : ℕ) : Type 0 where
   pub lower : least ≤ before
   pub opens : (least ≡ before) ⊎ (is_open_need set (slice_index_or own least []) ≡ true)
-  pub none : (u : Use) → Contains row u → u.sentence < least → is_open_need set (slice_index_or own u.sentence []) ≡ false
+  pub none : (u : Use) → Contains row u → u.sentence < least →
+      is_open_need set (slice_index_or own u.sentence []) ≡ false
 
 -- a class on which a node splits is undecided
 abbrev pub IsUndecidedAt : List Literal → Node → Type 0

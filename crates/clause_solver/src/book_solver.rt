@@ -1,9 +1,10 @@
 //! A book with its solver, and the search.
 //!
-//! It is the procedure of Davis, Logemann and Loveland ("A machine program for theorem-proving", Communications of the ACM 5,
-//! 1962): unit propagation, a decision if nothing is forced any more, and a backtrack if propagation comes upon a
-//! contradiction. There is no rule for literals of one sign, and nothing is learnt from a contradiction, since the tree and the
-//! number of its failed leaves are specified. What the book says by itself is propagated once, for all searches.
+//! It is the procedure of Davis, Logemann and Loveland ("A machine program for theorem-proving",
+//! Communications of the ACM 5, 1962). It propagates units, decides if nothing is forced any more,
+//! and backtracks if propagation comes upon a contradiction. It has no rule for literals of one
+//! sign, and learns nothing from a contradiction, since the tree and the number of its failed
+//! leaves are specified. What the book says by itself is propagated once, for all searches.
 ghost use Rattle.std.specs.Prelude.{◌≤◌, ◌^◌, IfOk, length};
 ghost use Rattle.row_book.specs.{Book.{repository_of, Sound}, Needs.{NeedsFit}};
 ghost use Rattle.clause_solver.specs.Outcomes.{IsBudget, IsCertified, IsDecided, IsSearchOutcome};
@@ -39,7 +40,8 @@ impl<'a> Model for BookSolver<'a> {
     ghost invariant = { λ s. IsReady (repository_in s.book) s.solver };
 }
 
-/// How a walk of the tree ended: the verdict, with the trail of a found leaf and the log of a tree without one.
+/// How a walk of the tree ended: the verdict, with the trail of a found leaf and the log of a tree
+/// without one.
 #[derive(Drop)]
 struct Run {
     verdict: Verdict,
@@ -52,7 +54,7 @@ impl<'a> BookSolver<'a> {
     ghost use Rattle.row_book.specs.{Lent.{repository_in}, Needs.{NeedsFit}};
     ghost use Rattle.clause_solver.specs.{Outcomes.{IsBudget, IsCertified, IsSearchOutcome}, Verdicts.{EndsSearch, IsSearchVerdict}};
 
-    /// A book with a solver of it; it fails only if no memory is found.
+    /// A book with a solver of it.
     pub fn new(alloc: Global, book: &LentBook<'a>) -> Result<BookSolver<'a>, AllocError>
         ensures { IfOk result (λ made. made ≡ repository_in book.now) }
     {
@@ -63,8 +65,8 @@ impl<'a> BookSolver<'a> {
         })
     }
 
-    /// The answer of the tree of the book's formula with these goals, within the budget, with its certificate; it fails only
-    /// if no memory is found.
+    /// The answer of the tree of the book's formula with these goals, within the budget, with its
+    /// certificate.
     fn solve(&self, alloc: Global, goals: &Needs, budget: u64) -> Result<Outcome, AllocError>
         requires goals { NeedsFit (length self.now.clauses) goals.now }
         requires budget { IsBudget budget }
@@ -88,7 +90,7 @@ impl<'a> BookSolver<'a> {
         }
     }
 
-    /// The verdict alone: no log and no list of classes is made; it fails only if no memory is found.
+    /// The verdict alone: no log and no list of classes is made.
     pub fn verdict(&self, alloc: Global, goals: &Needs, budget: u64) -> Result<Verdict, AllocError>
         requires goals { NeedsFit (length self.now.clauses) goals.now }
         requires budget { IsBudget budget }
@@ -98,8 +100,7 @@ impl<'a> BookSolver<'a> {
         Ok(walked.verdict)
     }
 
-    /// The verdict in another book, which has the same clauses, whichever packages conflict there; it fails only if no memory
-    /// is found.
+    /// The verdict in another book, which has the same clauses, whichever packages conflict there.
     pub fn verdict_in(
         &self,
         alloc: Global,
@@ -116,7 +117,8 @@ impl<'a> BookSolver<'a> {
         Ok(walked.verdict)
     }
 
-    /// Walks the tree of a book with the same clauses, from what follows without goals. That does not depend on the conflicts.
+    /// Walks the tree of a book with the same clauses, from what follows without goals. That does
+    /// not depend on the conflicts.
     fn run(
         &self,
         alloc: Global,
@@ -128,7 +130,8 @@ impl<'a> BookSolver<'a> {
         requires clauses { (repository_in asked.now).clauses ≡ self.now.clauses }
         requires goals { NeedsFit (length self.now.clauses) goals.now }
         requires budget { IsBudget budget }
-        ensures { IfOk result (λ run. EndsSearch keeps (repository_in asked.now) goals.now budget run.verdict run.trail.1 run.log) }
+        ensures { IfOk result (λ run. EndsSearch keeps
+            (repository_in asked.now) goals.now budget run.verdict run.trail.1 run.log) }
     {
         let wanted = goal_sentences(alloc, goals)?;
         let formula = Formula {
@@ -158,9 +161,9 @@ impl<'a> BookSolver<'a> {
     }
 }
 
-/// Searches for a healthy set of the book that hits every goal, within a budget of failed leaves, from 1 to 1,000,000: the
-/// classes that are found, the log of a tree that finds nothing, or the budget and one where the tree has more failed leaves.
-/// It fails only where no memory is found.
+/// Searches for a healthy set of the book that hits every goal, within a budget of failed leaves,
+/// from 1 to 1,000,000. The answer is the classes that are found, or the log of a tree that finds
+/// nothing. If the tree has more failed leaves than the budget, it is the budget and one.
 pub fn search(
     alloc: Global,
     pool: &Pool,
@@ -171,9 +174,11 @@ pub fn search(
     requires sound { Sound pool.now book.now }
     requires goals { NeedsFit (length book.now.rows) goals.now }
     requires budget { IsBudget budget }
-    ensures tree { IfOk result (IsSearchOutcome (repository_of pool.now book.now) goals.now budget) }
+    ensures tree { IfOk result
+        (IsSearchOutcome (repository_of pool.now book.now) goals.now budget) }
     ensures certified { IfOk result (IsCertified (repository_of pool.now book.now) goals.now) }
-    ensures enough { IfOk result (λ outcome. 2 ^ length book.now.rows ≤ budget → IsDecided outcome) }
+    ensures enough { IfOk result (λ outcome. 2 ^ length book.now.rows ≤ budget →
+        IsDecided outcome) }
 {
     let lent = LentBook { pool, book };
     let solver = BookSolver::new(alloc, &lent)?;

@@ -9,17 +9,23 @@ use crate::trail::Trail;
 use search_terms::Literal;
 use std::alloc::AllocError;
 
-/// Marks a decision and what follows from it; answers whether it came upon a contradiction.
+/// Marks a decision and what follows from it. Returns whether there is a contradiction.
 pub(crate) fn decide(trail: &mut Trail, l: Literal, formula: &Formula) -> Result<bool, AllocError>
     requires engine { IsFormula trail.old.0 formula.now }
     requires positive { ArePositive formula.now.goals.now }
     requires class { l.class < trail.old.0 }
     requires undecided { is_undecided (set_of_trail trail.old.1) l ≡ true }
-    requires calm { (decisions : List Literal) × CalmAt (sentences_in formula.now) decisions trail.old.1 }
+    requires calm { (decisions : List Literal)
+        × CalmAt (sentences_in formula.now) decisions trail.old.1 }
     ensures classes { OnOk result (trail.new.0 ≡ trail.old.0) }
-    ensures front { OnOk result ((take (length trail.old.1) trail.new.1 ≡ trail.old.1) × (length trail.old.1 ≤ length trail.new.1)) }
-    ensures calm { IfOk result (λ contradiction. OnFalse contradiction ((decisions : List Literal) → CalmAt (sentences_in formula.now) decisions trail.old.1 → CalmAt (sentences_in formula.now) (decisions ++ l ∷ []) trail.new.1)) }
-    ensures contradiction { IfOk result (λ contradiction. OnTrue contradiction ((decisions : List Literal) → CalmAt (sentences_in formula.now) decisions trail.old.1 → Clashes (sentences_in formula.now) (decisions ++ l ∷ []))) }
+    ensures front { OnOk result ((take (length trail.old.1) trail.new.1 ≡ trail.old.1)
+        × (length trail.old.1 ≤ length trail.new.1)) }
+    ensures calm { IfOk result (λ contradiction. OnFalse contradiction ((decisions : List Literal) →
+        CalmAt (sentences_in formula.now) decisions trail.old.1 →
+        CalmAt (sentences_in formula.now) (decisions ++ l ∷ []) trail.new.1)) }
+    ensures contradiction { IfOk result (λ contradiction. OnTrue contradiction
+        ((decisions : List Literal) → CalmAt (sentences_in formula.now) decisions trail.old.1 →
+        Clashes (sentences_in formula.now) (decisions ++ l ∷ []))) }
 {
     let from = trail.as_slice().len();
     trail.put(l)?;

@@ -4,7 +4,8 @@ use clause_pool::NumList;
 use listed::Listed;
 use search_terms::LiteralList;
 
-/// A formula on classes: the sentences of the goals and of the clauses, the table of what uses the latter, and the conflicts.
+/// A formula on classes: the sentences of the goals and of the clauses, the table of what uses the
+/// latter, and the conflicts.
 #[derive(Clone, Copy)]
 pub(crate) struct Formula<'a> {
     /// The number of classes.

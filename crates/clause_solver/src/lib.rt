@@ -1,5 +1,6 @@
-//! The search for a healthy set that hits every goal: the tree of the formula, walked by unit propagation, decisions and
-//! backtracks up to the first found leaf, within a budget of failed leaves.
+//! The search for a healthy set that hits every goal. The tree of the formula is walked by unit
+//! propagation, decisions and backtracks up to the first found leaf, within a budget of failed
+//! leaves.
 #![tactic(auto)]
 
 mod book_solver;

@@ -14,7 +14,7 @@ use listed::Listed;
 use search_terms::{Literal, LiteralList};
 use std::alloc::{AllocError, Global};
 
-/// A node whose closure does not contradiction.
+/// A node whose closure has no contradiction.
 #[derive(Clone, Copy)]
 pub(crate) enum Node {
     /// No need is open.
@@ -23,10 +23,11 @@ pub(crate) enum Node {
     Splits(u32),
 }
 
-/// Where the search for the first open sentence starts: the front of the trail, which is so high, leaves none before the place open.
+/// The start of the search for the first open sentence: the front of the trail of this height
+/// leaves no sentence before the place open.
 #[derive(Clone, Copy, Drop)]
 pub(crate) struct Start {
-    /// How long the front is.
+    /// The length of the front.
     pub(crate) height: usize,
     /// The place among the clauses' sentences.
     pub(crate) place: usize,
@@ -51,7 +52,8 @@ fn lesser_open(trail: &Trail, own: &[LiteralList], row: &[Use], before: usize) -
     least
 }
 
-/// The least place below another one of an open sentence in the rows of some literals, or else the other one.
+/// The least place below another one of an open sentence in the rows of some literals, or else the
+/// other one.
 fn least_open(
     trail: &Trail,
     literals: &[Literal],
@@ -86,10 +88,11 @@ fn next_open(trail: &Trail, own: &[LiteralList], from: usize, end: usize) -> usi
     end
 }
 
-/// The place of the first open sentence, or the number of sentences, where none is open before a place.
+/// The place of the first open sentence, or the number of sentences. None is open before `from`.
 ///
-/// It looks at as many sentences from there on as the trail is long, and only then at those that the trail's literals stand in: so a
-/// package with many alternatives costs a step for each, and the sentences of other packages are not read for a small trail.
+/// It first looks at as many sentences from there on as the trail is long, and only then at those
+/// that have a literal of the trail. So a package with many alternatives costs a step for each, and
+/// the sentences of other packages are not read for a small trail.
 fn open_from(trail: &Trail, own: &[LiteralList], uses: &[Listed<Use>], from: usize) -> usize
     requires table { IsTable trail.now.0 uses.now own.now }
     requires negative { HaveNegative own.now }
@@ -110,7 +113,8 @@ fn open_from(trail: &Trail, own: &[LiteralList], uses: &[Listed<Use>], from: usi
     least_open(trail, trail.as_slice(), own, uses, own.len())
 }
 
-/// The place of the first open sentence, or the number of sentences, and where the search for the next one starts.
+/// The place of the first open sentence, or the number of sentences. It becomes the start of the
+/// next search.
 fn first_open(trail: &Trail, own: &[LiteralList], uses: &[Listed<Use>], start: &mut Start) -> usize
     requires table { IsTable trail.now.0 uses.now own.now }
     requires negative { HaveNegative own.now }
@@ -172,7 +176,8 @@ fn open_need<'a>(
     requires negative { HaveNegative own.now }
     requires start { IsStart own.now trail.now.1 start.old }
     ensures start { IsStart own.now trail.now.1 start.new }
-    ensures first { option_copied result ≡ find (is_open_need (set_of_trail trail.now.1)) (goals.now ++ own.now) }
+    ensures first { option_copied result
+        ≡ find (is_open_need (set_of_trail trail.now.1)) (goals.now ++ own.now) }
 {
     match open_goal(trail, goals) {
         Some(goal) => Some(goal),
@@ -180,7 +185,7 @@ fn open_need<'a>(
     }
 }
 
-/// A flag for each class, up where it is true.
+/// A flag for each class, up if the class is true.
 pub(crate) fn chosen(alloc: Global, classes: u32, trail: &Trail) -> Result<Vec<bool>, AllocError>
     ensures { IfOk result (λ v. v.items ≡ true_classes classes (set_of_trail trail.now.1)) }
 {
@@ -200,9 +205,12 @@ pub(crate) fn node_at(trail: &Trail, formula: &Formula, start: &mut Start) -> No
     requires engine { IsFormula trail.now.0 formula.now }
     requires negative { HaveNegative formula.now.own.now }
     requires full { AreFull formula.now.goals.now }
-    requires calm { (decisions : List Literal) × CalmAt (sentences_in formula.now) decisions trail.now.1 }
+    requires calm { (decisions : List Literal)
+        × CalmAt (sentences_in formula.now) decisions trail.now.1 }
     requires start { IsStart formula.now.own.now trail.now.1 start.old }
-    ensures node { (decisions : List Literal) → CalmAt (sentences_in formula.now) decisions trail.now.1 → IsNode formula.now.classes (sentences_in formula.now) decisions trail.now.1 result }
+    ensures node { (decisions : List Literal) →
+        CalmAt (sentences_in formula.now) decisions trail.now.1 →
+        IsNode formula.now.classes (sentences_in formula.now) decisions trail.now.1 result }
     ensures start { IsStart formula.now.own.now trail.now.1 start.new }
     ensures undecided { IsUndecidedAt trail.now.1 result }
 {

@@ -9,16 +9,19 @@ use crate::trail::Trail;
 use search_terms::{Literal, LiteralList};
 use std::alloc::AllocError;
 
-/// Propagates over the goals, unless the literal is positive: a goal has positive literals alone, and such a one contradicts none
-/// of these.
+/// Propagates over the goals, unless the literal is positive: a goal has only positive literals,
+/// and a positive literal contradicts none of these.
 fn propagate_goals(trail: &mut Trail, l: Literal, goals: &[LiteralList]) -> Result<bool, AllocError>
     requires ranged { InRange trail.old.0 goals.now }
     requires consistent { IsConsistent (set_of_trail trail.old.1) }
     requires positive { ArePositive goals.now }
     ensures classes { OnOk result (trail.new.0 ≡ trail.old.0) }
     ensures runs { OnOk result (Runs goals.now trail.old.1 trail.new.1) }
-    ensures waits { IfOk result (λ contradiction. OnFalse contradiction ((s : List Literal) → Contains goals.now s → Contains s (negation l) → Waits (length trail.old.1) trail.new.1 s)) }
-    ensures refuted { IfOk result (λ contradiction. OnTrue contradiction (HasRefuted goals.now (set_of_trail trail.new.1))) }
+    ensures waits { IfOk result (λ contradiction.
+        OnFalse contradiction ((s : List Literal) → Contains goals.now s → Contains s (negation l) →
+        Waits (length trail.old.1) trail.new.1 s)) }
+    ensures refuted { IfOk result (λ contradiction.
+        OnTrue contradiction (HasRefuted goals.now (set_of_trail trail.new.1))) }
 {
     if l.positive {
         return Ok(false);
@@ -29,7 +32,8 @@ fn propagate_goals(trail: &mut Trail, l: Literal, goals: &[LiteralList]) -> Resu
     Ok(false)
 }
 
-/// Propagates over the sentences that the literal contradicts one of; answers whether it came upon a contradiction.
+/// Propagates over the sentences with a literal that the given one contradicts. Returns whether
+/// there is a contradiction.
 fn propagate_literal(trail: &mut Trail, l: Literal, formula: &Formula) -> Result<bool, AllocError>
     requires engine { IsFormula trail.old.0 formula.now }
     requires positive { ArePositive formula.now.goals.now }
@@ -38,8 +42,11 @@ fn propagate_literal(trail: &mut Trail, l: Literal, formula: &Formula) -> Result
     requires there { set_of_trail trail.old.1 l ≡ true }
     ensures classes { OnOk result (trail.new.0 ≡ trail.old.0) }
     ensures runs { OnOk result (Runs (sentences_in formula.now) trail.old.1 trail.new.1) }
-    ensures waits { IfOk result (λ contradiction. OnFalse contradiction ((s : List Literal) → Contains (sentences_in formula.now) s → Contains s (negation l) → Waits (length trail.old.1) trail.new.1 s)) }
-    ensures refuted { IfOk result (λ contradiction. OnTrue contradiction (HasRefuted (sentences_in formula.now) (set_of_trail trail.new.1))) }
+    ensures waits { IfOk result (λ contradiction.
+        OnFalse contradiction ((s : List Literal) → Contains (sentences_in formula.now) s →
+        Contains s (negation l) → Waits (length trail.old.1) trail.new.1 s)) }
+    ensures refuted { IfOk result (λ contradiction.
+        OnTrue contradiction (HasRefuted (sentences_in formula.now) (set_of_trail trail.new.1))) }
 {
     let uses = formula.uses;
     let conflicts = formula.conflicts;
@@ -58,8 +65,8 @@ fn propagate_literal(trail: &mut Trail, l: Literal, formula: &Formula) -> Result
     Ok(false)
 }
 
-/// Propagates all literals of the trail from a place on, and those that come behind them; answers whether it came upon a
-/// contradiction.
+/// Propagates all literals of the trail from a place on, and those that are appended meanwhile.
+/// Returns whether there is a contradiction.
 pub(crate) fn propagate(
     trail: &mut Trail,
     from: usize,
@@ -72,8 +79,10 @@ pub(crate) fn propagate(
     requires waits { All (Waits from trail.old.1) (sentences_in formula.now) }
     ensures classes { OnOk result (trail.new.0 ≡ trail.old.0) }
     ensures runs { OnOk result (Runs (sentences_in formula.now) trail.old.1 trail.new.1) }
-    ensures closed { IfOk result (λ contradiction. OnFalse contradiction (IsUnitClosed (sentences_in formula.now) (set_of_trail trail.new.1))) }
-    ensures refuted { IfOk result (λ contradiction. OnTrue contradiction (HasRefuted (sentences_in formula.now) (set_of_trail trail.new.1))) }
+    ensures closed { IfOk result (λ contradiction. OnFalse contradiction
+        (IsUnitClosed (sentences_in formula.now) (set_of_trail trail.new.1))) }
+    ensures refuted { IfOk result (λ contradiction.
+        OnTrue contradiction (HasRefuted (sentences_in formula.now) (set_of_trail trail.new.1))) }
 {
     let mut next = from;
     while next < trail.as_slice().len() {

@@ -23,7 +23,8 @@ pub(crate) fn is_forced(trail: &Trail, l: Literal, sentence: &[Literal]) -> bool
         .all(|m| m.is_same(l) || trail.has(m.negation()))
 }
 
-/// Whether the use keeps two flags and neither is up: the sentence has two literals then that are not contradicted.
+/// Whether the use keeps two flags and neither is up: then the sentence has two literals that are
+/// not contradicted.
 pub(crate) fn has_two_free(trail: &Trail, entry: Use) -> bool
     ensures { result ≡ true → HasTwoFree (set_of_trail trail.now.1) entry }
 {

@@ -1,4 +1,5 @@
-//! What a book says without goals: its sentences with their table, propagated once for all searches.
+//! What a book says without goals: its sentences with their table, propagated once for all
+//! searches.
 ghost use Rattle.std.specs.Prelude.{◌≡◌, [], IfOk, OnOk};
 ghost use Rattle.clause_solver.specs.{Engine.{whole_form, sentences_in, IsEngine, IsFormula}, Levels.{CalmAt, IsAt}, Nodes.{ArePositive, HaveNegative}};
 ghost use Rattle.clause_solver.specs.Solvers.{AreApart};
@@ -14,8 +15,8 @@ use row_book::LentBook;
 use search_terms::{LiteralList, clause_sentences};
 use std::alloc::{AllocError, Global};
 
-/// What many searches over one book share: the sentences of its clauses with their table, and the closure of its own
-/// formula, taken once.
+/// What many searches over one book share: the sentences of its clauses with their table, and the
+/// closure of its own formula, taken once.
 #[derive(Drop)]
 pub(crate) struct Solver {
     // The number of classes.
@@ -30,7 +31,7 @@ pub(crate) struct Solver {
     pub(crate) dead: bool,
 }
 
-/// Propagates over the sentences alone; answers whether it came upon a contradiction.
+/// Propagates over the sentences alone. Returns whether there is a contradiction.
 fn first_pass(
     classes: u32,
     trail: &mut Trail,
@@ -43,7 +44,8 @@ fn first_pass(
     requires apart { AreApart conflicts.now }
     requires none { trail.old.1 ≡ [] }
     ensures classes { OnOk result (trail.new.0 ≡ trail.old.0) }
-    ensures at { IfOk result (λ contradiction. IsAt contradiction (whole_form [] own.now conflicts.now) [] [] trail.new.1) }
+    ensures at { IfOk result (λ contradiction.
+        IsAt contradiction (whole_form [] own.now conflicts.now) [] [] trail.new.1) }
 {
     if propagate_all(trail, own)? {
         return Ok(true);
@@ -61,13 +63,15 @@ fn first_pass(
     Ok(false)
 }
 
-/// Propagates over the goals besides; answers whether it came upon a contradiction.
+/// Propagates over the goals besides. Returns whether there is a contradiction.
 fn root(trail: &mut Trail, formula: &Formula) -> Result<bool, AllocError>
     requires engine { IsFormula trail.old.0 formula.now }
     requires positive { ArePositive formula.now.goals.now }
-    requires base { CalmAt (whole_form [] formula.now.own.now formula.now.conflicts.now) [] trail.old.1 }
+    requires base { CalmAt
+        (whole_form [] formula.now.own.now formula.now.conflicts.now) [] trail.old.1 }
     ensures classes { OnOk result (trail.new.0 ≡ trail.old.0) }
-    ensures at { IfOk result (λ contradiction. IsAt contradiction (sentences_in formula.now) [] [] trail.new.1) }
+    ensures at { IfOk result (λ contradiction.
+        IsAt contradiction (sentences_in formula.now) [] [] trail.new.1) }
 {
     let from = trail.as_slice().len();
     if propagate_all(trail, formula.goals)? {
@@ -84,7 +88,7 @@ impl Solver {
     ghost use Rattle.row_book.specs.Lent.{repository_in};
     ghost use Rattle.clause_solver.specs.Solvers.{IsReady};
 
-    /// The solver of a book; it fails only if no memory is found.
+    /// The solver of a book.
     pub(crate) fn new(alloc: Global, book: &LentBook) -> Result<Solver, AllocError>
         ensures { IfOk result (IsReady (repository_in book.now)) }
     {
@@ -113,9 +117,11 @@ impl Solver {
 pub(crate) fn start(dead: bool, trail: &mut Trail, formula: &Formula) -> Result<bool, AllocError>
     requires engine { IsFormula trail.old.0 formula.now }
     requires positive { ArePositive formula.now.goals.now }
-    requires base { IsAt dead (whole_form [] formula.now.own.now formula.now.conflicts.now) [] [] trail.old.1 }
+    requires base { IsAt dead
+        (whole_form [] formula.now.own.now formula.now.conflicts.now) [] [] trail.old.1 }
     ensures classes { OnOk result (trail.new.0 ≡ trail.old.0) }
-    ensures at { IfOk result (λ contradiction. IsAt contradiction (sentences_in formula.now) [] [] trail.new.1) }
+    ensures at { IfOk result (λ contradiction.
+        IsAt contradiction (sentences_in formula.now) [] [] trail.new.1) }
 {
     if dead {
         return Ok(true);

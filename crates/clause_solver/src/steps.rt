@@ -1,4 +1,4 @@
-//! Unit steps of sentences; each call answers whether it came upon a contradiction.
+//! Unit steps of sentences. Each call returns whether there is a contradiction.
 ghost use Rattle.std.specs.{Prelude.{◌≡◌, ◌<◌, ◌∷◌, [], true, false, All, OnOk, IfOk, length, map, slice_index_or}, Bool.{OnTrue, OnFalse}};
 ghost use Rattle.search_terms.specs.{Closure.{literal, InRange, IsClosedUnder, is_refuted}, Marks.{IsConsistent}, Form.{conflict_sentence}};
 ghost use Rattle.clause_solver.specs.{Marking.{set_of_trail}, Engine.{IsUse}, Running.{HasRefuted, Runs, Waits}};
@@ -15,8 +15,10 @@ pub(crate) fn unit_step(trail: &mut Trail, sentence: &[Literal]) -> Result<bool,
     requires consistent { IsConsistent (set_of_trail trail.old.1) }
     ensures classes { OnOk result (trail.new.0 ≡ trail.old.0) }
     ensures runs { OnOk result (Runs (sentence.now ∷ []) trail.old.1 trail.new.1) }
-    ensures met { IfOk result (λ contradiction. OnFalse contradiction (IsClosedUnder (set_of_trail trail.new.1) sentence.now)) }
-    ensures refuted { IfOk result (λ contradiction. OnTrue contradiction (is_refuted (set_of_trail trail.new.1) sentence.now ≡ true)) }
+    ensures met { IfOk result (λ contradiction.
+        OnFalse contradiction (IsClosedUnder (set_of_trail trail.new.1) sentence.now)) }
+    ensures refuted { IfOk result (λ contradiction.
+        OnTrue contradiction (is_refuted (set_of_trail trail.new.1) sentence.now ≡ true)) }
 {
     let Some(l) = first_free(trail, sentence) else {
         return Ok(true);
@@ -40,8 +42,10 @@ pub(crate) fn propagate_all(
     requires consistent { IsConsistent (set_of_trail trail.old.1) }
     ensures classes { OnOk result (trail.new.0 ≡ trail.old.0) }
     ensures runs { OnOk result (Runs sentences.now trail.old.1 trail.new.1) }
-    ensures waits { IfOk result (λ contradiction. OnFalse contradiction (All (Waits (length trail.old.1) trail.new.1) sentences.now)) }
-    ensures refuted { IfOk result (λ contradiction. OnTrue contradiction (HasRefuted sentences.now (set_of_trail trail.new.1))) }
+    ensures waits { IfOk result (λ contradiction.
+        OnFalse contradiction (All (Waits (length trail.old.1) trail.new.1) sentences.now)) }
+    ensures refuted { IfOk result (λ contradiction.
+        OnTrue contradiction (HasRefuted sentences.now (set_of_trail trail.new.1))) }
 {
     for sentence in sentences {
         if unit_step(trail, sentence.as_slice())? {
@@ -51,7 +55,8 @@ pub(crate) fn propagate_all(
     Ok(false)
 }
 
-/// Propagates the sentence of a use; it is not read where two of its literals are not contradicted.
+/// Propagates the sentence of a use. It is not read if two of its literals are known to be not
+/// contradicted.
 fn propagate_use(
     trail: &mut Trail,
     sentences: &[LiteralList],
@@ -61,9 +66,14 @@ fn propagate_use(
     requires consistent { IsConsistent (set_of_trail trail.old.1) }
     requires used { IsUse sentences.now entry }
     ensures classes { OnOk result (trail.new.0 ≡ trail.old.0) }
-    ensures runs { OnOk result (Runs (slice_index_or sentences.now entry.sentence [] ∷ []) trail.old.1 trail.new.1) }
-    ensures met { IfOk result (λ contradiction. OnFalse contradiction (IsClosedUnder (set_of_trail trail.new.1) (slice_index_or sentences.now entry.sentence []))) }
-    ensures refuted { IfOk result (λ contradiction. OnTrue contradiction (is_refuted (set_of_trail trail.new.1) (slice_index_or sentences.now entry.sentence []) ≡ true)) }
+    ensures runs { OnOk result
+        (Runs (slice_index_or sentences.now entry.sentence [] ∷ []) trail.old.1 trail.new.1) }
+    ensures met { IfOk result (λ contradiction. OnFalse contradiction
+        (IsClosedUnder (set_of_trail trail.new.1)
+        (slice_index_or sentences.now entry.sentence []))) }
+    ensures refuted { IfOk result (λ contradiction. OnTrue contradiction
+        (is_refuted (set_of_trail trail.new.1)
+        (slice_index_or sentences.now entry.sentence []) ≡ true)) }
 {
     if has_two_free(trail, entry) {
         return Ok(false);
@@ -83,8 +93,10 @@ pub(crate) fn propagate_row(
     requires row { All (IsUse sentences.now) row.now }
     ensures classes { OnOk result (trail.new.0 ≡ trail.old.0) }
     ensures runs { OnOk result (Runs sentences.now trail.old.1 trail.new.1) }
-    ensures waits { IfOk result (λ contradiction. OnFalse contradiction (All (λ u. Waits (length trail.old.1) trail.new.1 (slice_index_or sentences.now u.sentence [])) row.now)) }
-    ensures refuted { IfOk result (λ contradiction. OnTrue contradiction (HasRefuted sentences.now (set_of_trail trail.new.1))) }
+    ensures waits { IfOk result (λ contradiction. OnFalse contradiction (All (λ u. Waits
+        (length trail.old.1) trail.new.1 (slice_index_or sentences.now u.sentence [])) row.now)) }
+    ensures refuted { IfOk result (λ contradiction.
+        OnTrue contradiction (HasRefuted sentences.now (set_of_trail trail.new.1))) }
 {
     for entry in row {
         if propagate_use(trail, sentences, *entry)? {
@@ -105,9 +117,12 @@ pub(crate) fn propagate_conflicts(
     requires others { All (λ q. q < trail.old.0) others.now }
     requires consistent { IsConsistent (set_of_trail trail.old.1) }
     ensures classes { OnOk result (trail.new.0 ≡ trail.old.0) }
-    ensures runs { OnOk result (Runs (map (conflict_sentence class) others.now) trail.old.1 trail.new.1) }
-    ensures excluded { IfOk result (λ contradiction. OnFalse contradiction (All (λ q. set_of_trail trail.new.1 (literal q false) ≡ true) others.now)) }
-    ensures refuted { IfOk result (λ contradiction. OnTrue contradiction (HasRefuted (map (conflict_sentence class) others.now) (set_of_trail trail.new.1))) }
+    ensures runs { OnOk result
+        (Runs (map (conflict_sentence class) others.now) trail.old.1 trail.new.1) }
+    ensures excluded { IfOk result (λ contradiction. OnFalse contradiction (All (λ q.
+        set_of_trail trail.new.1 (literal q false) ≡ true) others.now)) }
+    ensures refuted { IfOk result (λ contradiction. OnTrue contradiction
+        (HasRefuted (map (conflict_sentence class) others.now) (set_of_trail trail.new.1))) }
 {
     for q in others {
         let sentence = [

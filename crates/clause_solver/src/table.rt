@@ -7,8 +7,9 @@ use listed::{Listed, empty_lists};
 use search_terms::{Literal, LiteralList};
 use std::alloc::{AllocError, Global};
 
-/// A sentence with a literal that another one contradicts, and the flags that contradict two others of its literals, where it has as
-/// many. While these are two flags and neither is up, the sentence forces nothing, and is not read.
+/// A sentence with a literal that another one contradicts, and the flags that contradict two others
+/// of its literals, if it has two. As long as these are two flags and neither is up, the sentence
+/// forces nothing, and is not read.
 #[derive(Clone, Copy, Drop)]
 pub(crate) struct Use {
     /// The place of the sentence.
@@ -19,7 +20,7 @@ pub(crate) struct Use {
     pub(crate) other: usize,
 }
 
-/// The first literal of the sentence besides two, or the first of these.
+/// The first literal of the sentence besides two given ones, or the first of these.
 fn besides(sentence: &[Literal], l: Literal, m: Literal) -> Literal
     requires { Contains sentence.now l }
     ensures { Contains sentence.now result }
@@ -31,7 +32,7 @@ fn besides(sentence: &[Literal], l: Literal, m: Literal) -> Literal
         .unwrap_or(l)
 }
 
-/// The use of a sentence where one of its literals is contradicted.
+/// The use of a sentence when one of its literals is contradicted.
 fn use_of(sentence: &[Literal], l: Literal, k: usize) -> Use
     requires { Contains sentence.now l }
     ensures { IsUseOf sentence.now k result }
@@ -70,7 +71,8 @@ fn enter_all(uses: &mut [Listed<Use>], classes: u32, own: &[LiteralList]) -> Res
     Ok(())
 }
 
-/// The table of the sentences: for each literal the uses of those that it contradicts one of.
+/// The table of the sentences: for each literal the uses of those that have a literal which it
+/// contradicts.
 pub(crate) fn table_of(
     alloc: Global,
     classes: u32,

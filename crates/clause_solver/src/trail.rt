@@ -28,7 +28,7 @@ impl Model for Trail {
 }
 
 impl Trail {
-    /// No trail.
+    /// An empty trail.
     pub(crate) fn new(alloc: Global, classes: u32) -> Result<Trail, AllocError>
         ensures { IfOk result (λ trail. trail ≡ (classes, [])) }
     {
@@ -63,7 +63,7 @@ impl Trail {
         self.literals.as_slice()
     }
 
-    /// Trail a literal that is not marked.
+    /// Appends a literal that is not marked.
     pub(crate) fn put(&mut self, l: Literal) -> Result<(), AllocError>
         requires class { l.class < self.old.0 }
         requires new { set_of_trail self.old.1 l ≡ false }
@@ -75,7 +75,7 @@ impl Trail {
         Ok(())
     }
 
-    /// The same trail.
+    /// A copy of the trail.
     pub(crate) fn copy(&self, alloc: Global) -> Result<Trail, AllocError>
         ensures { IfOk result (λ trail. trail ≡ self.now) }
     {
@@ -86,7 +86,7 @@ impl Trail {
         })
     }
 
-    /// Takes trail back until so many are left.
+    /// Takes the trail back to its first `keep` literals.
     pub(crate) fn undo(&mut self, keep: usize)
         requires { keep ≤ length self.old.1 }
         ensures { self.new ≡ (self.old.0, take keep self.old.1) }

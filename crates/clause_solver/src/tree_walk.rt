@@ -1,7 +1,8 @@
 //! The walk of the tree, by a stack of decisions with the levels at which they were taken.
 //!
-//! Depth first, true before false, and nothing is learnt: the tree is specified, and its failed leaves are the budget, so no
-//! other order may be taken, and a backtrack goes to the last decision alone.
+//! Depth first, true before false, and nothing is learnt: the tree is specified, and its failed
+//! leaves are the budget. So no other order may be taken, and a backtrack goes only to the last
+//! decision.
 ghost use Rattle.std.specs.Prelude.{◌≡◌, ◌+◌, ◌-◌, ◌<◌, ◌≤◌, ◌^◌, ◌∷◌, ◌++◌, [], ℕ, true, false, List, All, OnOk, IfOk, IfSome, IfNone, length, map};
 ghost use Rattle.search_terms.specs.{declared.literals.Literal.{Literal}, Closure.{negation}, Tree.{Tree, IsTree}};
 ghost use Rattle.clause_solver.specs.{Engine.{sentences_in, IsFormula}, Levels.{IsFallen, IsAt, IsToAssume}, Nodes.{AreFull, ArePositive, HaveNegative}};
@@ -16,8 +17,8 @@ use listed::Listed;
 use search_terms::{EntryList, Literal, negated};
 use std::alloc::{AllocError, Global};
 
-/// The decisions that lead to a node; for each the level below it, that is how long the trail was before it, and where the search for
-/// an open need started there.
+/// The decisions that lead to a node. For each there is the level below it, that is how long the
+/// trail was before it, and the start of the search for an open need there.
 #[derive(Drop)]
 pub(crate) struct Decisions {
     literals: Vec<Literal>,
@@ -26,14 +27,15 @@ pub(crate) struct Decisions {
     start: Start,
 }
 
-/// Adds the entry of a node to the log, where one is kept.
+/// Adds the entry of a node to the log, if one is kept.
 fn add_entry(
     alloc: Global,
     keeps: bool,
     log: &mut EntryList,
     decisions: &Decisions,
 ) -> Result<(), AllocError>
-    ensures { OnOk result (keeps ≡ true → log.new ≡ log.old ++ map negation decisions.now.literals.items ∷ []) }
+    ensures { OnOk result (keeps ≡ true →
+        log.new ≡ log.old ++ map negation decisions.now.literals.items ∷ []) }
 {
     if !keeps {
         return Ok(());
@@ -42,7 +44,8 @@ fn add_entry(
     log.push(entry)
 }
 
-/// Goes back from a refuted part of the tree to the last decision whose other sign is open, and answers that one.
+/// Goes back from a refuted part of the tree to the last decision whose other sign is open, and
+/// returns that one.
 fn backtrack(
     alloc: Global,
     formula: &Formula,
@@ -53,16 +56,24 @@ fn backtrack(
     log: &mut EntryList,
 ) -> Result<Option<Literal>, AllocError>
     requires range { All (λ l. l.class < formula.now.classes) decisions.old.literals.items }
-    requires past { WalksPast keeps formula.now.classes (sentences_in formula.now) decisions.old.literals.items failed log.old }
-    requires fallen { IsFallen (sentences_in formula.now) decisions.old.literals.items decisions.old.levels.items trail.old.1 }
-    requires starts { AreStarts formula.now.own.now decisions.old.levels.items decisions.old.starts.items trail.old.1 }
+    requires past { WalksPast keeps formula.now.classes
+        (sentences_in formula.now) decisions.old.literals.items failed log.old }
+    requires fallen { IsFallen (sentences_in formula.now) decisions.old.literals.items
+        decisions.old.levels.items trail.old.1 }
+    requires starts { AreStarts formula.now.own.now decisions.old.levels.items
+        decisions.old.starts.items trail.old.1 }
     ensures classes { OnOk result (trail.new.0 ≡ trail.old.0) }
-    ensures range { OnOk result (All (λ l. l.class < formula.now.classes) decisions.new.literals.items) }
-    ensures next { IfOk result (λ next. IfSome next (λ l. WalksIn keeps formula.now.classes (sentences_in formula.now) decisions.new.literals.items failed log.new)) }
-    ensures ready { IfOk result (λ next. IfSome next (λ l. IsToAssume (sentences_in formula.now) decisions.new.literals.items decisions.new.levels.items trail.new.1 l)) }
+    ensures range { OnOk result
+        (All (λ l. l.class < formula.now.classes) decisions.new.literals.items) }
+    ensures next { IfOk result (λ next. IfSome next (λ l. WalksIn keeps formula.now.classes
+        (sentences_in formula.now) decisions.new.literals.items failed log.new)) }
+    ensures ready { IfOk result (λ next. IfSome next (λ l. IsToAssume (sentences_in formula.now)
+        decisions.new.literals.items decisions.new.levels.items trail.new.1 l)) }
     ensures class { IfOk result (λ next. IfSome next (λ l. l.class < formula.now.classes)) }
-    ensures started { IfOk result (λ next. IfSome next (λ l. IsStarted formula.now.own.now decisions.new.levels.items decisions.new.starts.items trail.new.1 decisions.new.start)) }
-    ensures end { IfOk result (λ next. IfNone next (WalksPast keeps formula.now.classes (sentences_in formula.now) [] failed log.new)) }
+    ensures started { IfOk result (λ next. IfSome next (λ l. IsStarted formula.now.own.now
+        decisions.new.levels.items decisions.new.starts.items trail.new.1 decisions.new.start)) }
+    ensures end { IfOk result (λ next. IfNone next
+        (WalksPast keeps formula.now.classes (sentences_in formula.now) [] failed log.new)) }
 {
     while let Some(l) = decisions.literals.pop() {
         let Some(level) = decisions.levels.pop() else {
@@ -88,8 +99,9 @@ fn backtrack(
     Ok(None)
 }
 
-/// The verdict of the formula's tree within the budget, from the closure at its root. Where it is yes, the trail is that of
-/// the first found leaf; where it is no, the log is that of the tree, if one is kept.
+/// The verdict of the formula's tree within the budget, from the closure at its root. If it is yes,
+/// the trail is that of the first found leaf. If it is no, the log is that of the tree, if one is
+/// kept.
 pub(crate) fn walk(
     alloc: Global,
     formula: &Formula,
@@ -107,7 +119,9 @@ pub(crate) fn walk(
     requires room { budget < 2 ^ 64 - 1 }
     requires empty { log.old ≡ [] }
     requires root { IsAt contradicted (sentences_in formula.now) [] [] trail.old.1 }
-    ensures { IfOk result (λ verdict. (tree : Tree) → IsTree formula.now.classes (sentences_in formula.now) [] tree → Ends keeps formula.now.classes budget tree verdict trail.new.1 log.new) }
+    ensures { IfOk result (λ verdict. (tree : Tree) →
+        IsTree formula.now.classes (sentences_in formula.now) [] tree →
+        Ends keeps formula.now.classes budget tree verdict trail.new.1 log.new) }
 {
     let mut decisions = Decisions {
         literals: Vec::new(alloc),

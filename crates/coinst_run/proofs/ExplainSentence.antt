@@ -18,7 +18,7 @@ use Rattle.listed.specs.Lists.{In, here, there}
 use Rattle.relation_fields.specs.declared.packages.PackageFacts.{PackageFacts}
 use Rattle.repo_model.specs.{FirstFault.{first_fault}, Goals.{any_version, goal_of}, Repository.{suite_repository}, Stanzas.{stanza_at}}
 use Rattle.repo_model.specs.declared.goals.Goal.{Goal}
-use Rattle.claims.specs.Explained.{AreConflictsFor, AreKept, AreReasonsFor, CouldMeet, IsCoreOfGoals, IsTooLongWith, PrintedGoal, as_clashes, clashes_printed, printed_clashes, printed_core, kept_words}
+use Rattle.claims.specs.Explained.{AreConflictsFor, AreKept, AreReasonsFor, CouldMeet, IsCoreOfGoals, IsTooLongWith, PrintedGoal, as_clashes, printed_clashes, printed_core}
 use Rattle.claims.specs.{Goals.{CanMeet}, Sentences.{ExplainIsTrue, IsFaithfulExplanation}, Settled.{IsPastBudget}}
 use Rattle.claims.specs.Sentences.IsFaithfulExplanation.{yes as yes_printed, core as core_printed, undecided as undecided_printed}
 use Rattle.claims.proofs.{AskingWords.{explain_words_ask}, Cores.{conflicts_are_kept, could_to, each_wanted, goals_are_kept, printed_goal}}
@@ -57,7 +57,7 @@ module _ (text : Text) (budget limit : ℕ) (hold : Bool) (words : List Text) (g
   marked_word : (m : Mark) → (0 < m.goal) × (m.goal ≤ length goals) → (goal_of (printed_goal words m).word ≡ Some (goal_numbered goals m.goal)) × In (printed_goal words m).word words
   marked_word m place = word_at words goals (any_version []) z (m.goal - 1) (let low : 0 < m.goal = place.0 in let high : m.goal ≤ length goals = place.1 in omega (arith, low, high))
 
-  marked : (marks : List Mark) → ArePlacesFrom1 (length goals) marks → AreGoals (kept_words (all_printed words marks)) (marked_goals goals marks)
+  marked : (marks : List Mark) → ArePlacesFrom1 (length goals) marks → AreGoals (map (λ g. g.word) (all_printed words marks)) (marked_goals goals marks)
   marked [] p = tt
   marked (m ∷ marks) p = ((marked_word m (p m here)).0, marked marks (λ o i. p o (there i)))
 
@@ -70,7 +70,7 @@ module _ (text : Text) (budget limit : ℕ) (hold : Bool) (words : List Text) (g
   lines_same [] p = refl
   lines_same (m ∷ marks) p = ap₂ (λ x y. x ++ y) (line_same m (p m here)) (lines_same marks (λ o i. p o (there i)))
 
-  counted : (clashes : Option (List Clash)) → clash_count clashes ≡ clashes_printed clashes
+  counted : (clashes : Option (List Clash)) → clash_count clashes ≡ length (unwrap_or clashes [])
   counted None = refl
   counted (Some clashes) = refl
 
@@ -92,7 +92,7 @@ module _ (text : Text) (budget limit : ℕ) (hold : Bool) (words : List Text) (g
     asked =
         subst (λ ms. AreKept (λ (g : PrintedGoal). g.word) (λ (g : PrintedGoal). g.undecided) (IsPastBudget index) (CanMeet index) [] words (all_printed words ms)) (sym same_marks)
         (goals_are_kept (searched text budget limit hold) accepted words goals z);
-    impossible = λ met. c.impossible (meets_goals index (kept_words (all_printed words marks)) (marked_goals goals marks) (marked marks p) known_names met);
+    impossible = λ met. c.impossible (meets_goals index (map (λ g. g.word) (all_printed words marks)) (marked_goals goals marks) (marked marks p) known_names met);
   }
 
   -- the reasons
@@ -135,7 +135,7 @@ module _ (text : Text) (budget limit : ℕ) (hold : Bool) (words : List Text) (g
       let places : ArePlacesFrom1 (length goals) m.marks = tellable.0 in
       let parts = core_parts (verdict_in limit hold (home_in text) stanzas budget goals) m.marks m.clashes m.is in
       core_printed refl (all_printed words m.marks) m.clashes (m.reads ∙ core_same m.marks m.clashes places) (in_time text budget limit hold words goals z accepted m.within) (core_so m.marks places parts.0 m.core)
-      (conflicts_so (kept_words (all_printed words m.marks)) (marked_goals goals m.marks) (marked m.marks places) m.clashes parts.1 m.reasons)
+      (conflicts_so (map (λ g. g.word) (all_printed words m.marks)) (marked_goals goals m.marks) (marked m.marks places) m.clashes parts.1 m.reasons)
   explained_so Undecided printed m = undecided_printed refl m.reads (past text budget limit hold words goals z accepted m.spent)
 
 pub explain_is_true : (words : List Text) (readings : List OpenedFile) (verdict : ReportVerdict) (printed : Text) → IsMeant words readings verdict printed → ExplainIsTrue words readings (code_of (verdict_status verdict)) printed

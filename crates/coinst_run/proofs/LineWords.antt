@@ -4,7 +4,7 @@ use Rattle.std.proofs.{lemmas.Bool.{and_parts, and_from, not-true, not_from_fals
 use Rattle.std.proofs.lemmas.List.Folds.{list_all-append}
 use Rattle.std.specs.{Prelude.{if◌then◌else◌, nat_lt}, Fmt.{decimal, digits, digits_onto, digit_glyph}, List.{flat_map, list_all}}
 use Rattle.coinst_run.specs.CompareText.{comparison_line, comparison_text, end_text, is_open_line}
-use Rattle.suite_compare.specs.{Listing.{is_broken}, Indexes.{Name}, declared.report.ReportLine.{ReportLine}}
+use Rattle.suite_compare.specs.{Listing.{is_broken}, declared.report.ReportLine.{ReportLine}}
 use Rattle.suite_compare.specs.declared.report.ReportLine.TheVariants.{Broken1, Broken2, Open1, Open2}
 use Rattle.deb_version.specs.Names.{is_name}
 use Rattle.kernel_text.specs.KernelLines.{lines_of}
@@ -58,7 +58,7 @@ body_with_feed (Open1 name) = refl
 body_with_feed (Broken2 first second) = refl
 body_with_feed (Open2 first second) = refl
 
-name_fed : (name : Name) → is_name name ≡ true → no_feed name ≡ true
+name_fed : (name : List ℕ) → is_name name ≡ true → no_feed name ≡ true
 name_fed name h = no_feed_plain name (name_plain name h)
 
 body_fed : (line : ReportLine) → IsNamed line → no_feed (body line) ≡ true
@@ -66,11 +66,11 @@ body_fed (Broken1 name) h = name_fed name h
 body_fed (Open1 name) h = name_fed name h
 body_fed (Broken2 first second) h = pair_fed first second (name_fed first h.0) (name_fed second h.1)
   where
-    pair_fed : (first second : Name) → no_feed first ≡ true → no_feed second ≡ true → no_feed (body (Broken2 first second)) ≡ true
+    pair_fed : (first second : List ℕ) → no_feed first ≡ true → no_feed second ≡ true → no_feed (body (Broken2 first second)) ≡ true
     pair_fed first second a b = no_feed_both (codes "broken" ++ codes " " ++ first ++ codes " ") second (no_feed_both (codes "broken" ++ codes " " ++ first) (codes " ") a refl) b
 body_fed (Open2 first second) h = pair_fed first second (name_fed first h.0) (name_fed second h.1)
   where
-    pair_fed : (first second : Name) → no_feed first ≡ true → no_feed second ≡ true → no_feed (body (Open2 first second)) ≡ true
+    pair_fed : (first second : List ℕ) → no_feed first ≡ true → no_feed second ≡ true → no_feed (body (Open2 first second)) ≡ true
     pair_fed first second a b = no_feed_both (codes "open" ++ codes " " ++ first ++ codes " ") second (no_feed_both (codes "open" ++ codes " " ++ first) (codes " ") a refl) b
 
 -- the lines of the text
@@ -105,20 +105,20 @@ not_end (Broken2 first second) lines e = let h : ◌≡◌ {A = ℕ} 98 101 = cc
 not_end (Open2 first second) lines e = let h : ◌≡◌ {A = ℕ} 111 101 = cc in absurd (omega (arith, h))
 
 -- names behind a word
-same_name : (a b : Name) → is_name a ≡ true → is_name b ≡ true → a ++ 10 ∷ [] ≡ b ++ 10 ∷ [] → a ≡ b
+same_name : (a b : List ℕ) → is_name a ≡ true → is_name b ≡ true → a ++ 10 ∷ [] ≡ b ++ 10 ∷ [] → a ≡ b
 same_name a b h k e = (cut_same a b (10 ∷ []) (10 ∷ []) (name_plain a h) (name_plain b k) (inr refl) (inr refl) e).0
 
-pair_text_is : (a b : Name) → a ++ (32 ∷ []) ++ b ++ 10 ∷ [] ≡ a ++ (32 ∷ (b ++ 10 ∷ []))
+pair_text_is : (a b : List ℕ) → a ++ (32 ∷ []) ++ b ++ 10 ∷ [] ≡ a ++ (32 ∷ (b ++ 10 ∷ []))
 pair_text_is a b = ap (λ z. z ++ 10 ∷ []) (append_assoc a (32 ∷ []) b) ∙ append_assoc a (32 ∷ b) (10 ∷ [])
 
-same_pair : (a b c d : Name) → is_name a ≡ true → is_name b ≡ true → is_name c ≡ true → is_name d ≡ true → a ++ (32 ∷ []) ++ b ++ 10 ∷ [] ≡ c ++ (32 ∷ []) ++ d ++ 10 ∷ [] → (a ≡ c) × (b ≡ d)
+same_pair : (a b c d : List ℕ) → is_name a ≡ true → is_name b ≡ true → is_name c ≡ true → is_name d ≡ true → a ++ (32 ∷ []) ++ b ++ 10 ∷ [] ≡ c ++ (32 ∷ []) ++ d ++ 10 ∷ [] → (a ≡ c) × (b ≡ d)
 same_pair a b c d h i j k e =
     let w : (a ≡ c) × ((32 ∷ (b ++ 10 ∷ [])) ≡ (32 ∷ (d ++ 10 ∷ []))) =
     cut_same a c (32 ∷ (b ++ 10 ∷ [])) (32 ∷ (d ++ 10 ∷ [])) (name_plain a h) (name_plain c j) (inl refl) (inl refl) (sym (pair_text_is a b) ∙ e ∙ pair_text_is c d) in
     let t : b ++ 10 ∷ [] ≡ d ++ 10 ∷ [] = let q = w.1 in cc in
     (w.0, same_name b d i k t)
 
-one_or_two : (a c d : Name) → is_name a ≡ true → is_name c ≡ true → a ++ 10 ∷ [] ≡ c ++ (32 ∷ []) ++ d ++ 10 ∷ [] → ⊥
+one_or_two : (a c d : List ℕ) → is_name a ≡ true → is_name c ≡ true → a ++ 10 ∷ [] ≡ c ++ (32 ∷ []) ++ d ++ 10 ∷ [] → ⊥
 one_or_two a c d h j e =
     let w : (a ≡ c) × ((10 ∷ []) ≡ (32 ∷ (d ++ 10 ∷ []))) =
     cut_same a c (10 ∷ []) (32 ∷ (d ++ 10 ∷ [])) (name_plain a h) (name_plain c j) (inr refl) (inl refl) (e ∙ pair_text_is c d) in

@@ -1,7 +1,7 @@
 -- The sentence of `migrate`, from what its report means.
 use Rattle.suite_compare.specs.{Indexes.{HasPackageOf, Judged, SearchedIndex, searched}, Listing.{BothHave, ListsExactly, LosesNothing, is_broken}}
 use Rattle.suite_compare.specs.{Asking.{verdict_in}, Refusals.{home_in, packages_in}, declared.report.ReportLine.{ReportLine}}
-use Rattle.std.proofs.Common.{◌≡◌, ℕ, ◌+◌, ◌-◌, ◌≤◌, Bool, true, false, cond, ◌||◌, List, [], ◌∷◌, ◌++◌, None, filter, length, map, refl, sym, ap, ap₂, subst, ◌∙◌, arith, append_assoc, inl, inr}
+use Rattle.std.proofs.Common.{◌≡◌, ℕ, ◌+◌, ◌-◌, ◌≤◌, Bool, true, false, cond, not, ◌==◌, ◌||◌, List, [], ◌∷◌, ◌++◌, None, filter, length, map, refl, sym, ap, ap₂, subst, ◌∙◌, arith, append_assoc, inl, inr}
 use Rattle.std.proofs.lemmas.List.{append-nil}
 use Rattle.std.specs.{Prelude.{codes, unwrap_or}, List.{flat_map, list_any}}
 use Rattle.byte_flow.specs.History.{OpenedFile}
@@ -16,7 +16,7 @@ use Rattle.migrate_plan.specs.{Promises.{AreRight, IsRight, planned_name, search
 use Rattle.migrate_plan.specs.declared.plan.PlanLine.TheVariants.{Take, LeftLimit, LeftLine}
 use Rattle.repo_model.specs.{FirstFault.{first_fault}, Repository.{suite_repository}}
 use Rattle.repo_model.proofs.SoundSuite.{suite_sound}
-use Rattle.claims.specs.{Goals.{CanMeet}, Kernel.{PassesOnTheWay}, Plans.{is_left_broken, is_left_name, plan_status, printed_plan, printed_step}}
+use Rattle.claims.specs.{Goals.{CanMeet}, Kernel.{PassesOnTheWay}, Plans.{line_status, plan_status, printed_plan, printed_step}}
 use Rattle.claims.specs.Sentences.{IsFaithfulList, IsFaithfulPlan, IsRightStep, MigrateIsTrue}
 use Rattle.claims.proofs.{AskingWords.{migrate_words_ask}, CompareSentence.{comparisons_mean_this, installs_from, installs_to, two_of}}
 use Rattle.claims.proofs.{Index.{indexes_are_read}, Passing.{passes_not, passes_so}, Plans.{differing_order, differs_from, differs_to, mix_is}}
@@ -56,17 +56,25 @@ plan_same lines =
     ∙ ap₂ (λ m n. flat_map printed_step lines ++ end_text m n) (takes lines) (leaves lines)
 
 -- the status in both spellings
-broken_same : (lines : List PlanLine) → list_any would_break lines ≡ list_any is_left_broken lines
+broken_same : (lines : List PlanLine) → list_any would_break lines ≡ list_any (λ l. line_status l == 1) lines
 broken_same [] = refl
 broken_same (Take name ∷ lines) = broken_same lines
 broken_same (LeftLimit name ∷ lines) = broken_same lines
-broken_same (LeftLine name line ∷ lines) = ap (λ b. is_broken line || b) (broken_same lines)
+broken_same (LeftLine name line ∷ lines) = ap₂ (λ a b. a || b) (is_one (is_broken line)) (broken_same lines)
+  where
+    is_one : (b : Bool) → b ≡ (cond b 1 8 == 1)
+    is_one true = refl
+    is_one false = refl
 
-left_same : (lines : List PlanLine) → list_any is_not_taken lines ≡ list_any is_left_name lines
+left_same : (lines : List PlanLine) → list_any is_not_taken lines ≡ list_any (λ l. not (line_status l == 0)) lines
 left_same [] = refl
 left_same (Take name ∷ lines) = left_same lines
 left_same (LeftLimit name ∷ lines) = refl
-left_same (LeftLine name line ∷ lines) = refl
+left_same (LeftLine name line ∷ lines) = ap (λ a. a || list_any (λ l. not (line_status l == 0)) lines) (is_left (is_broken line))
+  where
+    is_left : (b : Bool) → true ≡ not (cond b 1 8 == 0)
+    is_left true = refl
+    is_left false = refl
 
 plan_ends : (lines : List PlanLine) → code_of (verdict_status (plan_verdict lines)) ≡ plan_status lines
 plan_ends lines = by (list_any would_break lines) (list_any is_not_taken lines) ∙ ap₂ (λ a b. cond a 1 (cond b 8 0)) (broken_same lines) (left_same lines)

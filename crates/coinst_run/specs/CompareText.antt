@@ -24,4 +24,5 @@ comparison_text lines = flat_map comparison_line lines ++ end_text lines
 
 -- something is broken, or something is open, or neither
 abbrev pub comparison_verdict : List ReportLine → ReportVerdict
-comparison_verdict lines = if list_any is_broken lines then Negative else (if list_any is_open_line lines then Undecided else Done)
+comparison_verdict lines = if list_any is_broken lines then Negative
+    else (if list_any is_open_line lines then Undecided else Done)

@@ -1,4 +1,5 @@
--- The course of a command: which files it reads, each by what it read before, and what it then answers.
+-- The course of a command: which files it reads, each by what it read before, and what it then
+-- answers.
 use Rattle.std.specs.Prelude.{ℕ, List, Ok, Err}
 use Rattle.coinst_run.specs.Answer.{Answer, CourseStage}
 

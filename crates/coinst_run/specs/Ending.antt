@@ -1,4 +1,4 @@
--- The outcome that an answer in memory stands for; none where no memory was found.
+-- The outcome that an answer in memory stands for; none if no memory was found.
 use Rattle.std.specs.Prelude.{◌≡◌, ℕ, List, Option, Some, None, Result, Ok, Err, ⊤}
 use Rattle.byte_flow.specs.{declared.transfer.ReadError.{ReadError}, declared.transfer.ReadError.TheVariants.{Failed, TooLong}}
 use Rattle.byte_flow.specs.declared.transfer.ReadError.TheVariants as read

@@ -1,4 +1,5 @@
--- What a fault of an index is refused as; want of memory is no fault of a text, and this row is never asked for.
+-- What a fault of an index is refused as; want of memory is no fault of a text, and this row is
+-- never asked for.
 use Rattle.coinst_run.specs.{declared.answer.Cause.{Cause}, declared.answer.Cause.TheVariants.{Content, TooLarge}}
 use Rattle.repo_model.specs.declared.fault.IndexFault.{IndexFault}
 use Rattle.repo_model.specs.declared.fault.IndexFault.TheVariants.{Stanza, MissingPackage, MissingVersion, BadPackage, BadVersion, BadArchitecture, BadRelation, Duplicate, Mixed, TooMany, Memory}

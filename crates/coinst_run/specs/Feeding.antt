@@ -5,8 +5,10 @@ use Rattle.byte_flow.specs.Models.{ShelfModel}
 use Rattle.repo_model.specs.{Feed.{taken_of, FeedStandsFor}, declared.feed.SuiteFeed.{SuiteFeed}}
 use Rattle.coinst_run.specs.Follows.{WasRead}
 
--- The file at the path was read whole, the feed stands for its text, and it has taken so many bytes.
-pub record WasFed {S : Type 0} (M : ShelfModel S) (old : S) (path : List ℕ) (feed : SuiteFeed) (new : S) : Type 0 where
+-- The file at the path was read whole. The feed stands for its text, and has taken as many bytes as
+-- that has.
+pub record WasFed {S : Type 0} (M : ShelfModel S) (old : S) (path : List ℕ) (feed : SuiteFeed)
+    (new : S) : Type 0 where
   pub text : List ℕ
   pub whole : WasRead M old path text new
   pub stands : FeedStandsFor feed text

@@ -11,7 +11,8 @@ pub record IsHeldOf (text : List ℕ) (index : MeasuredIndex) : Type 0 where
   pub length_is : index.length ≡ length text
 
 -- the file at a path was read, and this is what is held of it
-pub record WasMeasured {S : Type 0} (M : ShelfModel S) (old : S) (path : List ℕ) (index : MeasuredIndex) (new : S) : Type 0 where
+pub record WasMeasured {S : Type 0} (M : ShelfModel S) (old : S) (path : List ℕ)
+    (index : MeasuredIndex) (new : S) : Type 0 where
   pub text : List ℕ
   pub whole : WasRead M old path text new
   pub held : IsHeldOf text index

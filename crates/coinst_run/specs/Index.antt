@@ -1,5 +1,5 @@
--- What an index without a fault says: its packages in file order, and its home, the common architecture of those that
--- are not of `all`.
+-- What an index without a fault says: its packages in file order, and its home, the common
+-- architecture of those that are not of `all`.
 use Rattle.std.specs.Prelude.{ℕ, List, Option, Some, None, Ok, Err}
 use Rattle.relation_fields.specs.{declared.packages.Home.{Home}, declared.packages.PackageFacts.{PackageFacts}}
 use Rattle.repo_model.specs.{declared.fault.IndexFault.{IndexFault}, declared.suite.Suite.{Suite}, FirstFault.{first_fault}}
@@ -17,7 +17,7 @@ index_in text = record { home = home_in text; packages = packages_in text }
 abbrev pub index_of : Suite → Index
 index_of suite = record { home = suite.home; packages = suite.packages }
 
--- an index by its first fault, where there is one
+-- an index by its first fault, if there is one
 abbrev pub by_fault : List ℕ → List ℕ → Option IndexFault → CourseStage Index
 by_fault path text None = Ok (index_in text)
 by_fault path text (Some fault) = Err (refused (fault_cause fault) (fault_line path fault))

@@ -10,33 +10,43 @@ use Rattle.coinst_run.specs.{Answer.{CourseStage, reported, refused}, Course.{Co
 use Rattle.coinst_run.specs.{IndexKernel.{ClassedKernel, index_kernel, json_for, text_for}, Lines.{limit_line}}
 use Rattle.repo_model.specs.{Repository.{suite_repository}, Stanzas.{stanza_at}}
 
--- the kernel of an index at a limit, with hold or without, by the round that passes the clause limit, where there is one
+-- the kernel of an index at a limit, with hold or without, by the round that passes the clause
+-- limit, if there is one
 abbrev pub by_limit : List ℕ → ℕ → Bool → Index → Option PassedRound → CourseStage ClassedKernel
 by_limit path limit hold index None = Ok (index_kernel limit hold index.home index.packages)
 by_limit path limit hold index (Some passed) =
-    Err (refused ClauseLimit (limit_line path limit passed.number passed.gone (stanza_at index.packages passed.over) passed.count))
+    Err (refused ClauseLimit (limit_line path limit passed.number passed.gone
+    (stanza_at index.packages passed.over) passed.count))
 
 abbrev pub kernel_of : List ℕ → ℕ → Bool → Index → CourseStage ClassedKernel
-kernel_of path limit hold index = by_limit path limit hold index (limit_at limit hold (suite_repository index.home index.packages))
+kernel_of path limit hold index = by_limit path limit hold index
+    (limit_at limit hold (suite_repository index.home index.packages))
 
 -- the index at a path, and its kernel
 abbrev pub reads_kernel : List ℕ → ℕ → Bool → (Index → ClassedKernel → Course) → Course
-reads_kernel path limit hold next = reads_index path (λ index. then_on (kernel_of path limit hold index) (next index))
+reads_kernel path limit hold next =
+    reads_index path (λ index. then_on (kernel_of path limit hold index) (next index))
 
--- a kernel as text, or as JSON where that is asked for
+-- a kernel as text, or as JSON if that is asked for
 abbrev pub printed_kernel : Bool → List PackageFacts → ClassedKernel → List ℕ
 printed_kernel false packages kernel = text_for packages kernel
 printed_kernel true packages kernel = json_for packages kernel
 
 abbrev pub kernel_answer : Bool → Index → ClassedKernel → Course
-kernel_answer json index kernel = answers (reported Done (printed_kernel json index.packages kernel))
+kernel_answer json index kernel =
+    answers (reported Done (printed_kernel json index.packages kernel))
 
 abbrev pub kernel_course : List ℕ → Bool → ℕ → Bool → Course
 kernel_course path json limit hold = reads_kernel path limit hold (kernel_answer json)
 
 -- what a kernel over a pool says
 abbrev pub classed_in : Interned → Kernel → ClassedKernel
-classed_in pool made = record { repository = repository_of pool made.book; class_of = made.class_of; hold = made.hold; held = made.held }
+classed_in pool made = record {
+  repository = repository_of pool made.book;
+  class_of = made.class_of;
+  hold = made.hold;
+  held = made.held;
+}
 
 -- a kernel of the packages over a pool: a sound book, and for each package one of its classes
 pub record FitsSuite (pool : Interned) (packages : List PackageFacts) (made : Kernel) : Type 0 where

@@ -1,4 +1,5 @@
--- The lines on standard error, the one on the size of a kernel, and what the lines of several reports are made of.
+-- The lines on standard error, the one on the size of a kernel, and what the lines of several
+-- reports are made of.
 use Rattle.std.specs.{Prelude.{ℕ, List, [], ◌∷◌, ◌++◌, codes}, Fmt.{decimal}}
 use Rattle.relation_fields.specs.declared.packages.PackageFacts.{PackageFacts}
 use Rattle.stanza_reader.specs.declared.fault.StanzaFault.{StanzaFault}
@@ -14,11 +15,11 @@ line_of_text text = text ++ 10 ∷ []
 abbrev pub counted_line : List ℕ → ℕ → List ℕ
 counted_line words number = line_of_text (words ++ decimal number)
 
--- what is told of a name
+-- the line of a word and a name
 abbrev pub single_text : List ℕ → List ℕ → List ℕ
 single_text word name = line_of_text (word ++ codes " " ++ name)
 
--- and of two names together, or of a name and a version
+-- the line of a word and two names, or a name and a version
 abbrev pub pair_text : List ℕ → List ℕ → List ℕ → List ℕ
 pair_text word first second = line_of_text (word ++ codes " " ++ first ++ codes " " ++ second)
 
@@ -70,7 +71,8 @@ fault_text (MissingVersion line) = at_line line (codes "no Version field")
 fault_text (BadPackage line) = at_line line (codes "bad Package value")
 fault_text (BadVersion line) = at_line line (codes "bad Version value")
 fault_text (BadArchitecture line) = at_line line (codes "bad Architecture value")
-fault_text (BadRelation line element) = at_line line (codes "bad relation, element ") ++ decimal element
+fault_text (BadRelation line element) =
+    at_line line (codes "bad relation, element ") ++ decimal element
 fault_text (Duplicate first line) = at_line line (codes "same package as line ") ++ decimal first
 fault_text (Mixed line) = at_line line (codes "second architecture")
 fault_text TooMany = codes "more than 200000 packages"
@@ -79,18 +81,23 @@ fault_text Memory = codes "out of memory"
 unfoldable pub fault_line : List ℕ → IndexFault → List ℕ
 fault_line path fault = about path (fault_text fault)
 
--- which limit was passed, and when: in which round, counted from 1, and how many packages were gone in it
+-- which limit was passed, and when: in which round, counted from 1, and how many packages were gone
+-- in it
 abbrev pub stage_text : ℕ → ℕ → ℕ → List ℕ
-stage_text limit round gone = codes "clause limit " ++ decimal limit ++ codes " passed: round " ++ decimal round ++ codes ", gone " ++ decimal gone
+stage_text limit round gone = codes "clause limit " ++ decimal limit ++ codes " passed: round "
+    ++ decimal round ++ codes ", gone " ++ decimal gone
 
 -- the package that passed it, and the number of its clauses
 abbrev pub row_text : List ℕ → List ℕ → ℕ → List ℕ
-row_text name version count = codes ", package " ++ name ++ codes " " ++ version ++ codes ", clauses " ++ decimal count
+row_text name version count =
+    codes ", package " ++ name ++ codes " " ++ version ++ codes ", clauses " ++ decimal count
 
 -- how large a kernel is
 unfoldable pub size_line : ℕ → ℕ → ℕ → ℕ → List ℕ
 size_line packages classes clauses conflicts =
-    line_of_text (codes "packages " ++ decimal packages ++ codes " classes " ++ decimal classes ++ codes " clauses " ++ decimal clauses ++ codes " conflicts " ++ decimal conflicts)
+    line_of_text (codes "packages " ++ decimal packages ++ codes " classes " ++ decimal classes
+    ++ codes " clauses " ++ decimal clauses ++ codes " conflicts " ++ decimal conflicts)
 
 unfoldable pub limit_line : List ℕ → ℕ → ℕ → ℕ → PackageFacts → ℕ → List ℕ
-limit_line path limit round gone facts count = about path (stage_text limit round gone ++ row_text facts.name facts.version count)
+limit_line path limit round gone facts count =
+    about path (stage_text limit round gone ++ row_text facts.name facts.version count)

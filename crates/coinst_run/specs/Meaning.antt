@@ -1,4 +1,5 @@
--- Each command by its job: its course, what the program answers, and what its printed report means for the files that were read.
+-- Each command by its job: its course, what the program answers, and what its printed report means
+-- for the files that were read.
 use Rattle.std.specs.Prelude.{◌≡◌, ℕ, Bool, true, false, List, [], ◌∷◌, Option, Some, None}
 use Rattle.suite_compare.specs.Refusals.{home_in, packages_in}
 use Rattle.coinst_run.specs.{IndexKernel.{index_kernel}, Sample.{sample_limit, size_report, sample_course}, declared.answer.ReportVerdict.{ReportVerdict}}
@@ -33,35 +34,48 @@ of_job (Some job) files = outcome_over files (course_of job)
 unfoldable pub outcome_for : List (List ℕ) → Files → Outcome
 outcome_for words files = of_job (job_of words) files
 
--- A kernel text has this meaning for the index, and the printed bytes are the JSON of the format, the repository, the members and
--- the held classes that it reads for.
+-- A kernel text has this meaning for the index. The printed bytes are the JSON of the format, the
+-- repository, the members and the held classes that it reads for.
 pub record JsonMeans (text : List ℕ) (limit : ℕ) (hold : Bool) (printed : List ℕ) : Type 0 where
   pub kernel_text : List ℕ
   pub means : KernelMeans text limit hold kernel_text
   pub json : printed ≡ kernel_json (format_of hold) means.repository means.members means.held
 
--- The text is an index without a fault, and the printed line has the numbers of its kernel without hold.
+-- The text is an index without a fault, and the printed line has the numbers of its kernel without
+-- hold.
 pub record SizeMeans (text printed : List ℕ) : Type 0 where
   pub accepted : first_fault text ≡ None
-  pub line : printed ≡ size_report (packages_in text) (index_kernel sample_limit false (home_in text) (packages_in text))
+  pub line : printed ≡ size_report (packages_in text)
+      (index_kernel sample_limit false (home_in text) (packages_in text))
 
--- what a printed report means for the job that it was asked for, by its verdict, and for what was read
+-- what a printed report means for the job that it was asked for, by its verdict, and for what was
+-- read
 abbrev pub MeansJob : Job → List OpenedFile → ReportVerdict → List ℕ → Type 0
-MeansJob (Kernel path false limit hold) readings verdict printed = (text : List ℕ) × (readings ≡ (path, text) ∷ []) × (verdict ≡ Done) × KernelMeans text limit hold printed
-MeansJob (Kernel path true limit hold) readings verdict printed = (text : List ℕ) × (readings ≡ (path, text) ∷ []) × (verdict ≡ Done) × JsonMeans text limit hold printed
-MeansJob (Query path goals budget limit hold) readings verdict printed = (text : List ℕ) × (readings ≡ (path, text) ∷ []) × QueryMeans text goals budget limit hold verdict printed
-MeansJob (StoredQuery path goals budget) readings verdict printed = (text : List ℕ) × (readings ≡ (path, text) ∷ []) × StoredMeans text goals budget verdict printed
+MeansJob (Kernel path false limit hold) readings verdict printed = (text : List ℕ)
+    × (readings ≡ (path, text) ∷ []) × (verdict ≡ Done) × KernelMeans text limit hold printed
+MeansJob (Kernel path true limit hold) readings verdict printed = (text : List ℕ)
+    × (readings ≡ (path, text) ∷ []) × (verdict ≡ Done) × JsonMeans text limit hold printed
+MeansJob (Query path goals budget limit hold) readings verdict printed = (text : List ℕ)
+    × (readings ≡ (path, text) ∷ []) × QueryMeans text goals budget limit hold verdict printed
+MeansJob (StoredQuery path goals budget) readings verdict printed =
+    (text : List ℕ) × (readings ≡ (path, text) ∷ []) × StoredMeans text goals budget verdict printed
 MeansJob (Compare old new budget limit hold) readings verdict printed =
-    (first second : List ℕ) × (readings ≡ (old, first) ∷ (new, second) ∷ []) × CompareMeans first second budget limit hold verdict printed
-MeansJob (Explain path goals budget limit hold) readings verdict printed = (text : List ℕ) × (readings ≡ (path, text) ∷ []) × ExplainMeans text goals budget limit hold verdict printed
+    (first second : List ℕ) × (readings ≡ (old, first) ∷ (new, second) ∷ [])
+    × CompareMeans first second budget limit hold verdict printed
+MeansJob (Explain path goals budget limit hold) readings verdict printed = (text : List ℕ)
+    × (readings ≡ (path, text) ∷ []) × ExplainMeans text goals budget limit hold verdict printed
 MeansJob (Status file index budget limit hold) readings verdict printed =
-    (suite text : List ℕ) × (readings ≡ (index, suite) ∷ (file, text) ∷ []) × SystemMeans suite text budget limit hold verdict printed
+    (suite text : List ℕ) × (readings ≡ (index, suite) ∷ (file, text) ∷ [])
+    × SystemMeans suite text budget limit hold verdict printed
 MeansJob (Migrate old new budget limit hold) readings verdict printed =
-    (first second : List ℕ) × (readings ≡ (old, first) ∷ (new, second) ∷ []) × MigrateMeans first second budget limit hold verdict printed
-MeansJob (Sample seed count) readings verdict printed = (readings ≡ []) × (verdict ≡ Done) × SizeMeans (sample_text seed count) printed
+    (first second : List ℕ) × (readings ≡ (old, first) ∷ (new, second) ∷ [])
+    × MigrateMeans first second budget limit hold verdict printed
+MeansJob (Sample seed count) readings verdict printed =
+    (readings ≡ []) × (verdict ≡ Done) × SizeMeans (sample_text seed count) printed
 
 -- The words ask for a job, and this is what the printed bytes mean for it.
-pub record IsMeant (words : List (List ℕ)) (readings : List OpenedFile) (verdict : ReportVerdict) (printed : List ℕ) : Type 0 where
+pub record IsMeant (words : List (List ℕ)) (readings : List OpenedFile) (verdict : ReportVerdict)
+    (printed : List ℕ) : Type 0 where
   pub job : Job
   pub asked : job_of words ≡ Some job
   pub means : MeansJob job readings verdict printed

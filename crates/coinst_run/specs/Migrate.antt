@@ -22,8 +22,8 @@ mix_path = codes "mix"
 abbrev pub packages_line : List ℕ
 packages_line = about mix_path (codes "more than 200000 packages")
 
--- what is refused where no plan is made of the indexes at two paths, with the line that says so; want of memory is no refusal of
--- a plan, and this row is never asked for
+-- What is refused if no plan is made of the indexes at two paths, with the line that says so. Want
+-- of memory is no refusal of a plan, and this row is never asked for.
 abbrev pub refusal_of : List ℕ → List ℕ → PlanError → Answer
 refusal_of old new Homes = refused Content (homes_line old new)
 refusal_of old new (Names count) = refused TooLarge (names_line new)
@@ -32,24 +32,28 @@ refusal_of old new (TooLong count) = refused TooLarge (too_long_line mix_path)
 refusal_of old new Memory = refused Content memory_line
 
 -- the lines of a plan, unless it is refused
-abbrev pub by_refusal : List ℕ → List ℕ → List PlanLine → Option PlanError → CourseStage (List PlanLine)
+abbrev pub by_refusal : List ℕ → List ℕ → List PlanLine → Option PlanError →
+    CourseStage (List PlanLine)
 by_refusal old new lines None = Ok lines
 by_refusal old new lines (Some error) = Err (refusal_of old new error)
 
 -- the plan of the texts at two paths
 abbrev pub planned : List ℕ → List ℕ → Settings → List ℕ → List ℕ → CourseStage (List PlanLine)
-planned old new settings first second = by_refusal old new (plan settings first second) (plan_refusal first second)
+planned old new settings first second =
+    by_refusal old new (plan settings first second) (plan_refusal first second)
 
 -- the report on a plan
 abbrev pub lines_answer : List PlanLine → Answer
 lines_answer lines = reported (plan_verdict lines) (plan_text lines)
 
 abbrev pub plan_answer : List ℕ → List ℕ → Settings → List ℕ → List ℕ → Course
-plan_answer old new settings first second = then_on (planned old new settings first second) (λ lines. answers (lines_answer lines))
+plan_answer old new settings first second =
+    then_on (planned old new settings first second) (λ lines. answers (lines_answer lines))
 
--- behind the older text and its kernel, the newer text, of which no kernel is made
+-- after the older text and its kernel, the newer text; no kernel is made of it
 abbrev pub new_answer : List ℕ → List ℕ → Settings → List ℕ → List ℕ → Course
-new_answer old new settings first second = then_on (checked_index new second) (λ index. plan_answer old new settings first second)
+new_answer old new settings first second =
+    then_on (checked_index new second) (λ index. plan_answer old new settings first second)
 
 abbrev pub new_course : List ℕ → List ℕ → Settings → List ℕ → Course
 new_course old new settings first = reads new (new_answer old new settings first)
@@ -63,7 +67,10 @@ abbrev pub kernel_at : List ℕ → ℕ → Bool → List ℕ → CourseStage Cl
 kernel_at path limit hold text = kernel_behind path limit hold (checked_index path text)
 
 abbrev pub old_answer : List ℕ → List ℕ → Settings → List ℕ → Course
-old_answer old new settings first = then_on (kernel_at old settings.limit settings.hold first) (λ kernel. new_course old new settings first)
+old_answer old new settings first =
+    then_on (kernel_at old settings.limit settings.hold first) (λ kernel.
+    new_course old new settings first)
 
 abbrev pub migrate_course : List ℕ → List ℕ → ℕ → ℕ → Bool → Course
-migrate_course old new budget limit hold = reads old (old_answer old new (plan_settings budget limit hold))
+migrate_course old new budget limit hold =
+    reads old (old_answer old new (plan_settings budget limit hold))

@@ -5,7 +5,8 @@ use Rattle.coinst_run.specs.{declared.answer.ReportVerdict.{ReportVerdict}, decl
 use Rattle.coinst_run.specs.{CompareText.{comparison_line}, Lines.{end_text, pair_text, single_text}}
 use Rattle.suite_compare.specs.Listing.{is_broken}
 
--- a name that is taken; one that is left since the limit is passed; and one that is left with a line of a comparison
+-- a name that is taken; one that is left since the limit is passed; and one that is left with a
+-- line of a comparison
 abbrev pub plan_line : PlanLine → List ℕ
 plan_line (Take name) = single_text (codes "take") name
 plan_line (LeftLimit name) = pair_text (codes "left") name (codes "limit")
@@ -27,8 +28,10 @@ would_break (LeftLine name line) = is_broken line
 
 -- the lines in their order, and how many names are taken, and how many left
 unfoldable pub plan_text : List PlanLine → List ℕ
-plan_text lines = flat_map plan_line lines ++ end_text (length (filter is_take lines)) (length (filter is_not_taken lines))
+plan_text lines = flat_map plan_line lines
+    ++ end_text (length (filter is_take lines)) (length (filter is_not_taken lines))
 
 -- a name is left since something would be broken, or a name is left, or neither
 abbrev pub plan_verdict : List PlanLine → ReportVerdict
-plan_verdict lines = if list_any would_break lines then Negative else (if list_any is_not_taken lines then Undecided else Done)
+plan_verdict lines = if list_any would_break lines then Negative
+    else (if list_any is_not_taken lines then Undecided else Done)

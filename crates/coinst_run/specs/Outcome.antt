@@ -1,5 +1,6 @@
--- What the program answers where memory is found and no read or write fails: where a course leads over the files, and then
--- the status, the report on standard output and the line on standard error.
+-- What the program answers if memory is found and no read or write fails. It is what a course leads
+-- to over the files, and then the status, the report on standard output and the line on standard
+-- error.
 use Rattle.std.specs.Prelude.{◌≤◌, ℕ, nat_lt, cond, List, [], ◌∷◌, length, Option, Some, None}
 use Rattle.repo_model.specs.Limits.{most_bytes}
 use Rattle.byte_flow.specs.{Flow.{Files}, History.{OpenedFile}}
@@ -24,20 +25,24 @@ too_long path = refused TooLargeFile (too_long_line path)
 -- a file that is there is read, unless it is too long
 abbrev pub over_file : List ℕ → Option (List ℕ) → (List ℕ → Outcome) → Outcome
 over_file path None next = unread path
-over_file path (Some text) next = cond (nat_lt file_limit (length text)) (answered (too_long path)) (next text)
+over_file path (Some text) next =
+    cond (nat_lt file_limit (length text)) (answered (too_long path)) (next text)
 
--- where a course leads over the files
+-- what a course leads to over the files
 abbrev pub outcome_over : Files → Course → Outcome
 outcome_over files (answers answer) = answered answer
-outcome_over files (reads path next) = over_file path (files path) (λ text. outcome_over files (next text))
+outcome_over files (reads path next) =
+    over_file path (files path) (λ text. outcome_over files (next text))
 
--- where a course leads if its files have these texts, one after another
+-- what a course leads to if its files have these texts, one after another
 pub data GivesAnswer : Course → List OpenedFile → Answer → Type 0 where
   at_once : (answer : Answer) → GivesAnswer (answers answer) [] answer
-  by_text : (path text : List ℕ) (next : List ℕ → Course) (readings : List OpenedFile) (answer : Answer) → length text ≤ file_limit → GivesAnswer (next text) readings answer →
+  by_text : (path text : List ℕ) (next : List ℕ → Course) (readings : List OpenedFile)
+      (answer : Answer) → length text ≤ file_limit → GivesAnswer (next text) readings answer →
       GivesAnswer (reads path next) ((path, text) ∷ readings) answer
 
--- the status, the report and the line of an outcome; no line with a report, and no report with a line
+-- the status, the report and the line of an outcome; no line with a report, and no report with a
+-- line
 abbrev pub status_of : Outcome → Status
 status_of (answered (reported verdict report)) = verdict_status verdict
 status_of (answered (refused cause line)) = cause_status cause

@@ -1,4 +1,5 @@
--- What is there for a course to go on by: a file, an index without a fault, one within the clause limit.
+-- What is there for a course to go on by: a file, an index without a fault, one within the clause
+-- limit.
 use Rattle.std.specs.Prelude.{◌≡◌, ℕ, ◌≤◌, Bool, List, length, Some, None}
 use Rattle.byte_flow.specs.Flow.{Files}
 use Rattle.repo_model.specs.{FirstFault.{first_fault}, Repository.{suite_repository}}
@@ -18,7 +19,8 @@ pub record HasIndex (files : Files) (path text : List ℕ) : Type 0 where
 
 -- no package of the index passes the clause limit in any round
 abbrev pub IsWithinLimit : ℕ → Bool → List ℕ → Type 0
-IsWithinLimit limit hold text = limit_at limit hold (suite_repository (home_in text) (packages_in text)) ≡ None
+IsWithinLimit limit hold text =
+    limit_at limit hold (suite_repository (home_in text) (packages_in text)) ≡ None
 
 -- an index at the path, whose packages stay within the clause limit
 abbrev pub HasKernel : Files → List ℕ → ℕ → Bool → List ℕ → Type 0

@@ -13,32 +13,39 @@ goal_of_number goals number = slice_index_or goals (number - 1) (any_version [])
 
 -- the goal of this number is the first that names no package
 abbrev pub unknown_answer : List Goal → ℕ → Answer
-unknown_answer goals number = refused UnknownGoal (unknown_line number (goal_of_number goals number))
+unknown_answer goals number =
+    refused UnknownGoal (unknown_line number (goal_of_number goals number))
 
--- yes, in these words, where the tree finds classes, and otherwise no and the log of the tree
+-- yes, in these words, if the tree finds classes, and otherwise no and the log of the tree
 abbrev pub by_found : (List Bool → List ℕ) → Tree → Option (List Bool) → Answer
 by_found shown tree (Some chosen) = reported Done (shown chosen)
 by_found shown tree None = reported Negative (no_text (log_of [] tree))
 
--- undecided where the tree has more failed leaves than the budget
+-- undecided if the tree has more failed leaves than the budget
 abbrev pub by_tree : (List Bool → List ℕ) → ℕ → Tree → Answer
-by_tree shown budget tree = if nat_lt budget (failed_leaves tree) then reported Undecided (undecided_text budget) else by_found shown tree (found_of tree)
+by_tree shown budget tree = if nat_lt budget (failed_leaves tree)
+    then reported Undecided (undecided_text budget) else by_found shown tree (found_of tree)
 
--- yes, and what is installed where these classes are found
+-- yes, and what is installed if these classes are found
 abbrev pub installed_text : ℕ → Bool → Index → List Goal → List Bool → List ℕ
-installed_text limit hold index goals chosen = yes_text index.packages (installation limit hold index.home index.packages goals chosen)
+installed_text limit hold index goals chosen =
+    yes_text index.packages (installation limit hold index.home index.packages goals chosen)
 
--- goals by the first that names no package, where there is one
+-- goals by the first that names no package, if there is one
 abbrev pub by_unknown : ℕ → Bool → Index → List Goal → ℕ → Option ℕ → Answer
 by_unknown limit hold index goals budget (Some number) = unknown_answer goals number
-by_unknown limit hold index goals budget None = by_tree (installed_text limit hold index goals) budget (asked_tree limit hold index.home index.packages goals)
+by_unknown limit hold index goals budget None = by_tree (installed_text limit hold index goals)
+    budget (asked_tree limit hold index.home index.packages goals)
 
 -- what is answered to goals, at a clause limit, with hold or without
 abbrev pub goals_answer : List Goal → ℕ → ℕ → Bool → Index → Answer
-goals_answer goals budget limit hold index = by_unknown limit hold index goals budget (unknown_goal index.packages goals)
+goals_answer goals budget limit hold index =
+    by_unknown limit hold index goals budget (unknown_goal index.packages goals)
 
 abbrev pub query_answer : List Goal → ℕ → ℕ → Bool → Index → ClassedKernel → Course
-query_answer goals budget limit hold index kernel = answers (goals_answer goals budget limit hold index)
+query_answer goals budget limit hold index kernel =
+    answers (goals_answer goals budget limit hold index)
 
 abbrev pub query_course : List ℕ → List Goal → ℕ → ℕ → Bool → Course
-query_course path goals budget limit hold = reads_kernel path limit hold (query_answer goals budget limit hold)
+query_course path goals budget limit hold =
+    reads_kernel path limit hold (query_answer goals budget limit hold)

@@ -11,9 +11,10 @@ install_line facts = pair_text (codes "install") facts.name facts.version
 
 -- yes, and the packages with these numbers
 unfoldable pub yes_text : List PackageFacts → List ℕ → List ℕ
-yes_text packages numbers = line_of_text (codes "yes") ++ flat_map (λ n. install_line (stanza_at packages n)) numbers
+yes_text packages numbers =
+    line_of_text (codes "yes") ++ flat_map (λ n. install_line (stanza_at packages n)) numbers
 
--- a class that holds, or one that does not, behind a space
+-- a class that holds, or one that does not, after a space
 abbrev pub literal_text : Literal → List ℕ
 literal_text l = (if l.positive then codes " +" else codes " -") ++ decimal l.class
 
@@ -29,7 +30,7 @@ no_text log = line_of_text (codes "no") ++ flat_map log_line log
 unfoldable pub undecided_text : ℕ → List ℕ
 undecided_text budget = counted_line (codes "undecided ") budget
 
--- behind a name, the version that a goal asks for
+-- after a name, the version that a goal asks for
 abbrev pub version_word : Option (List ℕ) → List ℕ
 version_word None = []
 version_word (Some version) = codes "=" ++ version
@@ -40,4 +41,5 @@ goal_word goal = goal.name ++ version_word goal.version
 
 -- the goal of the number, counted from 1, names no package
 unfoldable pub unknown_line : ℕ → Goal → List ℕ
-unknown_line number goal = line_of_text (codes "goal " ++ decimal number ++ codes " is unknown: " ++ goal_word goal)
+unknown_line number goal =
+    line_of_text (codes "goal " ++ decimal number ++ codes " is unknown: " ++ goal_word goal)

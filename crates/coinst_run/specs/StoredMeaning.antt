@@ -10,18 +10,22 @@ use Rattle.suite_compare.specs.Asking.{tree_of}
 use Rattle.coinst_run.specs.{declared.answer.ReportVerdict.{ReportVerdict}, declared.answer.ReportVerdict.TheVariants.{Done, Negative, Undecided}}
 use Rattle.coinst_run.specs.{Answer.{reported}, Outcome.{GivesAnswer}, QueryText.{no_text, undecided_text}, StoredQuery.{listed_classes, stored_query_course}}
 
--- The goals are co-installable: the printed classes, which no other ones are printed as, are ascending and serve them.
-pub record StoredYes (kernel : KernelContent) (goals : List Goal) (budget : ℕ) (printed : List ℕ) : Type 0 where
+-- The goals are co-installable: the printed classes, which no other ones are printed as, are
+-- ascending and serve them.
+pub record StoredYes (kernel : KernelContent) (goals : List Goal) (budget : ℕ)
+    (printed : List ℕ) : Type 0 where
   pub within : failed_leaves (tree_of kernel.repository (images_in kernel goals)) ≤ budget
   pub classes : List ℕ
   pub reads : printed ≡ listed_classes classes
-  pub once : (other : List ℕ) → ((n : ℕ) → In n other → n < length kernel.repository.clauses) → printed ≡ listed_classes other → other ≡ classes
+  pub once : (other : List ℕ) → ((n : ℕ) → In n other → n < length kernel.repository.clauses) →
+      printed ≡ listed_classes other → other ≡ classes
   pub order : Ascending classes
   pub serves : ServesStored kernel goals (has classes)
 
--- The goals are not co-installable, and the printed log shows it: it derives the empty entry over the formula of the kernel and
--- the classes that the goals name.
-pub record StoredNo (kernel : KernelContent) (goals : List Goal) (budget : ℕ) (printed : List ℕ) : Type 0 where
+-- The goals are not co-installable, and the printed log shows it: it derives the empty entry over
+-- the formula of the kernel and the classes that the goals name.
+pub record StoredNo (kernel : KernelContent) (goals : List Goal) (budget : ℕ)
+    (printed : List ℕ) : Type 0 where
   pub within : failed_leaves (tree_of kernel.repository (images_in kernel goals)) ≤ budget
   pub refuted : ¬ (CoinstStored kernel goals)
   pub log : List (List Literal)
@@ -29,7 +33,8 @@ pub record StoredNo (kernel : KernelContent) (goals : List Goal) (budget : ℕ) 
   pub derives : Derives (form kernel.repository (images_in kernel goals)) log
 
 -- The search tree has more failed leaves than the budget that is printed.
-pub record StoredUndecided (kernel : KernelContent) (goals : List Goal) (budget : ℕ) (printed : List ℕ) : Type 0 where
+pub record StoredUndecided (kernel : KernelContent) (goals : List Goal) (budget : ℕ)
+    (printed : List ℕ) : Type 0 where
   pub reads : printed ≡ undecided_text budget
   pub spent : budget < failed_leaves (tree_of kernel.repository (images_in kernel goals))
 
@@ -38,16 +43,20 @@ MeansStored kernel goals budget Done printed = StoredYes kernel goals budget pri
 MeansStored kernel goals budget Negative printed = StoredNo kernel goals budget printed
 MeansStored kernel goals budget Undecided printed = StoredUndecided kernel goals budget printed
 
--- The text stands for one kernel, by the grammar of the formats, each goal names a package of it, and the printed bytes mean what
--- their verdict says.
-pub record StoredMeans (text : List ℕ) (goals : List Goal) (budget : ℕ) (verdict : ReportVerdict) (printed : List ℕ) : Type 0 where
+-- The text stands for one kernel, by the grammar of the formats, each goal names a package of it,
+-- and the printed bytes mean what their verdict says.
+pub record StoredMeans (text : List ℕ) (goals : List Goal) (budget : ℕ) (verdict : ReportVerdict)
+    (printed : List ℕ) : Type 0 where
   pub kernel : KernelContent
   pub reads : KernelReads text kernel.format kernel.repository kernel.members kernel.held
   pub once : HasOneReading text
-  pub known : (goal : Goal) → In goal goals → (m : Member) × In m kernel.members × (is_named_by goal m ≡ true)
+  pub known : (goal : Goal) → In goal goals →
+      (m : Member) × In m kernel.members × (is_named_by goal m ≡ true)
   pub means : MeansStored kernel goals budget verdict printed
 
 -- what is reported of a file means this for its text
 abbrev pub StoredQueryIsMeant : Type 0
-StoredQueryIsMeant = (path : List ℕ) (goals : List Goal) (budget : ℕ) (readings : List OpenedFile) (verdict : ReportVerdict) (printed : List ℕ) → GivesAnswer (stored_query_course path goals budget) readings (reported verdict printed) →
+StoredQueryIsMeant = (path : List ℕ) (goals : List Goal) (budget : ℕ) (readings : List OpenedFile)
+    (verdict : ReportVerdict) (printed : List ℕ) →
+    GivesAnswer (stored_query_course path goals budget) readings (reported verdict printed) →
     (text : List ℕ) × (readings ≡ (path, text) ∷ []) × StoredMeans text goals budget verdict printed

@@ -1,4 +1,5 @@
--- The command that asks of a stored kernel whether one package for each goal can be installed together.
+-- The command that asks of a stored kernel whether one package for each goal can be installed
+-- together.
 use Rattle.std.specs.{Prelude.{ℕ, List, ◌++◌, codes, filter, length, Bool, Option, Some, None, Result, Ok, Err}, List.{flat_map}}
 use Rattle.kernel_text.specs.{Images.{unknown_goal}, KernelReads.{KernelContent}, Serving.{images_in}, declared.fault.KernelFault.{KernelFault}}
 use Rattle.kernel_text.specs.{declared.fault.KernelFault.TheVariants.{Line, End, Range, Memory}, StoredReading.{stored_reading}}
@@ -18,8 +19,9 @@ kernel_fault_text Memory = codes "out of memory"
 unfoldable pub kernel_fault_line : List ℕ → KernelFault → List ℕ
 kernel_fault_line path fault = about path (kernel_fault_text fault)
 
--- A stored kernel by the reading of its text: its classes and their packages, or its fault. `stored_reading` is the reading and
--- the fault of the grammar, and nothing else: the law `texts_are_told`.
+-- A stored kernel by the reading of its text: its classes and their packages, or its fault.
+-- `stored_reading` is the reading and the fault of the grammar, and nothing else: the law
+-- `texts_are_told`.
 abbrev pub by_reading : List ℕ → Result KernelContent KernelFault → CourseStage KernelContent
 by_reading path (Ok kernel) = Ok kernel
 by_reading path (Err fault) = Err (refused Content (kernel_fault_line path fault))
@@ -39,18 +41,21 @@ listed_classes classes = line_of_text (codes "yes") ++ flat_map class_line class
 unfoldable pub classes_text : List Bool → List ℕ
 classes_text chosen = listed_classes (filter (flag chosen) (numbers (length chosen) 0))
 
--- goals by the first that names no package, where there is one
+-- goals by the first that names no package, if there is one
 abbrev pub stored_by_unknown : KernelContent → List Goal → ℕ → Option ℕ → Answer
 stored_by_unknown kernel goals budget (Some number) = unknown_answer goals number
-stored_by_unknown kernel goals budget None = by_tree classes_text budget (tree_of kernel.repository (images_in kernel goals))
+stored_by_unknown kernel goals budget None =
+    by_tree classes_text budget (tree_of kernel.repository (images_in kernel goals))
 
 -- what is answered to goals
 abbrev pub stored_answer : List Goal → ℕ → KernelContent → Answer
-stored_answer goals budget kernel = stored_by_unknown kernel goals budget (unknown_goal kernel.members goals)
+stored_answer goals budget kernel =
+    stored_by_unknown kernel goals budget (unknown_goal kernel.members goals)
 
 -- and to a text
 abbrev pub stored_query_answer : List ℕ → List Goal → ℕ → List ℕ → Course
-stored_query_answer path goals budget text = then_on (checked_kernel path text) (λ kernel. answers (stored_answer goals budget kernel))
+stored_query_answer path goals budget text =
+    then_on (checked_kernel path text) (λ kernel. answers (stored_answer goals budget kernel))
 
 abbrev pub stored_query_course : List ℕ → List Goal → ℕ → Course
 stored_query_course path goals budget = reads path (stored_query_answer path goals budget)

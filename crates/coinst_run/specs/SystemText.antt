@@ -13,7 +13,7 @@ is_had line = line.had
 abbrev pub is_lacking : HaveLine → Bool
 is_lacking line = not line.had
 
--- each own package is told with its version as the status file writes it
+-- each own package is printed with its version as the status file writes it
 abbrev pub have_text : HaveLine → List ℕ
 have_text line = pair_text (if line.had then codes "have" else codes "lack") line.name line.version
 
@@ -29,9 +29,10 @@ abbrev pub unhit_text : HaveLine → List ℕ
 unhit_text line = pair_text (codes "self unhit") line.name line.version
 
 abbrev pub clash_text : HaveLine → HaveLine → List ℕ
-clash_text first second = pair_text (codes "self clash") (versioned_text first.name first.version) (versioned_text second.name second.version)
+clash_text first second = pair_text (codes "self clash") (versioned_text first.name first.version)
+    (versioned_text second.name second.version)
 
--- whether the own packages stand together by themselves
+-- whether the own packages are healthy by themselves
 abbrev pub own_text : List HaveLine → OwnState → List ℕ
 own_text lines Healthy = line_of_text (codes "self healthy")
 own_text lines (Unhit n) = unhit_text (line_at lines n)
@@ -49,10 +50,12 @@ suite_text budget Yes = line_of_text (codes "suite yes")
 suite_text budget No = line_of_text (codes "suite no")
 suite_text budget (Spent failed) = counted_line (codes "suite undecided ") budget
 
--- the own packages, how many installed ones are foreign, the two answers, and how many own packages the index has, and how many it lacks
+-- the own packages, how many installed ones are foreign, the two answers, and how many own packages
+-- the index has, and how many it lacks
 unfoldable pub system_text : ℕ → StatusReport → List ℕ
 system_text budget report =
-    flat_map have_text report.lines ++ counted_line (codes "foreign ") report.foreign ++ own_text report.lines report.own ++ suite_text budget report.verdict
+    flat_map have_text report.lines ++ counted_line (codes "foreign ") report.foreign
+    ++ own_text report.lines report.own ++ suite_text budget report.verdict
     ++ end_text (length (filter is_had report.lines)) (length (filter is_lacking report.lines))
 
 -- what the index answers as a whole
@@ -61,7 +64,7 @@ suite_verdict Yes = Done
 suite_verdict No = Negative
 suite_verdict (Spent failed) = Undecided
 
--- the own packages do not stand together, or the index says no; or it says nothing
+-- the own packages are not healthy, or the index says no; or the index is undecided
 abbrev pub system_verdict : OwnState → SuiteState → ReportVerdict
 system_verdict Healthy state = suite_verdict state
 system_verdict (Unhit n) state = Negative

@@ -8,7 +8,8 @@ use std::alloc::AllocError;
 pub enum ReportVerdict {
     /// Done; yes; nothing broken and nothing open; a system that stands; every name taken.
     Done,
-    /// No; a core; something broken; a system that does not stand; a name left since something would be broken.
+    /// No; a core; something broken; a system that does not stand; a name left since something
+    /// would be broken.
     Negative,
     /// A search spent its budget; names left, and none for something broken.
     Undecided,
@@ -18,7 +19,7 @@ impl ReportVerdict {
     ghost use Rattle.std.specs.Prelude.{◌≡◌};
     ghost use Rattle.coinst_run.specs.Status.{verdict_status};
 
-    /// The status of a run whose report was written whole; it takes no memory.
+    /// The status of a run whose report was written whole.
     pub fn status(&self) -> Status
         ensures { result ≡ verdict_status self.now }
     {
@@ -47,7 +48,7 @@ impl Cause {
     ghost use Rattle.std.specs.Prelude.{◌≡◌};
     ghost use Rattle.coinst_run.specs.Status.{cause_status};
 
-    /// The status of a run that refused so; it takes no memory.
+    /// The status of a run that refused for this cause.
     pub fn status(&self) -> Status
         ensures { result ≡ cause_status self.now }
     {
@@ -107,7 +108,8 @@ impl Stop {
 
     /// The refusal of a cause with the line that says so, unless no memory was found for the line.
     pub(crate) fn refused(cause: Cause, line: Result<Vec<u8>, AllocError>) -> Self
-        ensures { (text : List ℕ) → IfOk line (λ line. line.items ≡ text) → IfSome (stop_ending result) (λ outcome. outcome ≡ answered (refused cause text)) }
+        ensures { (text : List ℕ) → IfOk line (λ line. line.items ≡ text) →
+            IfSome (stop_ending result) (λ outcome. outcome ≡ answered (refused cause text)) }
     {
         match line {
             Ok(line) => Stop::Refused { cause, line },

@@ -22,7 +22,9 @@ pub fn compare<F: Shelf>(
     with: Settings,
 ) -> Result<Report, Stop>
     requires { AreInLimits with }
-    ensures { Follows F.model (compare_course old.now new.now with.budget with.clause_limit with.hold) shelf.old (ending_of result) shelf.new }
+    ensures { Follows F.model
+        (compare_course old.now new.now with.budget with.clause_limit with.hold)
+        shelf.old (ending_of result) shelf.new }
 {
     let before = view_at(alloc, shelf, old, with.clause_limit, with.hold)?;
     let report = against_newer(alloc, shelf, &before, new, with.budget);
@@ -30,7 +32,8 @@ pub fn compare<F: Shelf>(
     report
 }
 
-// The report on what the index at a path has broken of that of an older view, at the limit of this view, with hold or without.
+// The report on what the index at a path has broken of that of an older view, at the limit of this
+// view, with hold or without.
 fn against_newer<F: Shelf>(
     alloc: Global,
     shelf: &mut F,
@@ -40,7 +43,9 @@ fn against_newer<F: Shelf>(
 ) -> Result<Report, Stop>
     requires budget { IsBudget budget }
     requires limit { 0 < old.now.limit }
-    ensures { Follows F.model (reads_kernel new.now old.now.limit old.now.kernel.hold (compare_answer budget old.now.limit old.now.kernel.hold (index_of old.now.suite))) shelf.old (ending_of result) shelf.new }
+    ensures { Follows F.model (reads_kernel new.now old.now.limit old.now.kernel.hold
+        (compare_answer budget old.now.limit old.now.kernel.hold (index_of old.now.suite)))
+        shelf.old (ending_of result) shelf.new }
 {
     let after = view_at(alloc, shelf, new, old.limit, old.kernel.hold)?;
     let report = comparison(alloc, old, &after, budget);
@@ -54,7 +59,8 @@ fn comparison(alloc: Global, old: &SuiteView, new: &SuiteView, budget: u64) -> R
     requires budget { IsBudget budget }
     requires limit { new.now.limit ≡ old.now.limit }
     requires hold { new.now.kernel.hold ≡ old.now.kernel.hold }
-    ensures { Settles (answers (lines_answer (broken_lines budget old.now.limit old.now.kernel.hold (index_of old.now.suite) (index_of new.now.suite)))) (ending_of result) }
+    ensures { Settles (answers (lines_answer (broken_lines budget old.now.limit old.now.kernel.hold
+        (index_of old.now.suite) (index_of new.now.suite)))) (ending_of result) }
 {
     let report = suite_compare::compare(alloc, old, new, budget)?;
     let lines = report.lines.as_slice();

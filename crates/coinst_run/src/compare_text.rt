@@ -8,7 +8,7 @@ use crate::lines::{Made, Put, push_end, push_pair, push_single};
 use std::alloc::Global;
 use suite_compare::ReportLine;
 
-/// Puts a line behind the text.
+/// Appends a line of a comparison.
 pub(crate) fn push_line(out: &mut Vec<u8>, line: &ReportLine) -> Put
     ensures { OnOk result (out.new.items ≡ out.old.items ++ comparison_line line.now) }
 {
@@ -24,7 +24,7 @@ pub(crate) fn push_line(out: &mut Vec<u8>, line: &ReportLine) -> Put
     }
 }
 
-/// Whether the line tells of something broken; it takes no memory.
+/// Whether the line says that something is broken.
 pub(crate) fn is_broken(line: &ReportLine) -> bool
     ensures { result ≡ is_broken line.now }
 {
@@ -34,7 +34,7 @@ pub(crate) fn is_broken(line: &ReportLine) -> bool
     }
 }
 
-// How many lines tell of something broken.
+// How many lines say that something is broken.
 fn count_broken(lines: &[ReportLine]) -> usize
     ensures { result ≡ length (filter is_broken lines.now) }
 {
@@ -47,7 +47,7 @@ fn count_broken(lines: &[ReportLine]) -> usize
     count
 }
 
-// How many lines tell of something open.
+// How many lines say that something is open.
 fn count_open(lines: &[ReportLine]) -> usize
     ensures { result ≡ length (filter is_open_line lines.now) }
 {
@@ -73,21 +73,21 @@ pub(crate) fn comparison_text(alloc: Global, lines: &[ReportLine]) -> Made
     Ok(text)
 }
 
-// Whether some line tells of something broken.
+// Whether some line says that something is broken.
 fn has_broken(lines: &[ReportLine]) -> bool
     ensures { result ≡ list_any is_broken lines.now }
 {
     lines.iter().any(|line| is_broken(line))
 }
 
-// Whether some line tells of something open.
+// Whether some line says that something is open.
 fn has_open(lines: &[ReportLine]) -> bool
     ensures { result ≡ list_any is_open_line lines.now }
 {
     lines.iter().any(|line| !is_broken(line))
 }
 
-/// What the lines of a comparison say as a whole; it takes no memory.
+/// What the lines of a comparison say as a whole.
 pub(crate) fn comparison_verdict(lines: &[ReportLine]) -> ReportVerdict
     ensures { result ≡ comparison_verdict lines.now }
 {

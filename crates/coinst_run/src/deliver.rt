@@ -8,8 +8,8 @@ use crate::status::Status;
 use byte_flow::{Sink, WriteError, write_all};
 use itoa::Buffer;
 
-// Writes the pieces of a line one after another, up to the first that is not taken whole. It takes no
-// memory, so that the line of a failed write and that of want of memory are always told.
+// Writes the pieces of a line one after another, up to the first that is not taken whole. It takes
+// no memory, so that the line of a failed write and that of want of memory are always written.
 fn tell<E: Sink>(err: &mut E, pieces: &[&[u8]])
     ensures { Tells E.model err.old err.new (flat_map (λ p. p.now) pieces.now) }
 {
@@ -21,7 +21,7 @@ fn tell<E: Sink>(err: &mut E, pieces: &[&[u8]])
     }
 }
 
-// Tells after how many bytes a write failed.
+// Writes the line that says after how many bytes a write failed.
 fn tell_cut<E: Sink>(err: &mut E, written: u64)
     ensures { Tells E.model err.old err.new (cut_line written) }
 {
@@ -37,21 +37,21 @@ fn tell_cut<E: Sink>(err: &mut E, written: u64)
     );
 }
 
-// Tells that the file at a path could not be read.
+// Writes the line that says that the file at a path could not be read.
 fn tell_unread<E: Sink>(err: &mut E, path: &str)
     ensures { Tells E.model err.old err.new (unread_line path.now) }
 {
     tell(err, &[path.as_bytes(), b": read failed\n".as_slice()]);
 }
 
-// Tells a line that is whole.
+// Writes a whole line.
 fn tell_line<E: Sink>(err: &mut E, line: &[u8])
     ensures { Tells E.model err.old err.new line.now }
 {
     tell(err, &[line]);
 }
 
-// Tells why there is no report.
+// Writes the line that says why there is no report.
 #[tactic(auto, unfolding(crate::specs::Lines::words_line, crate::specs::Lines::memory_line))]
 fn refuse<E: Sink>(err: &mut E, stop: &Stop) -> Status
     ensures { IsRefused E.model err.old (stop_ending stop.now) result err.new }
@@ -76,9 +76,10 @@ fn refuse<E: Sink>(err: &mut E, stop: &Stop) -> Status
     }
 }
 
-/// Writes a report to one sink, or tells why there is none, or where it was cut, on the other.
+/// Writes a report to one sink. If there is none, or it is cut, a line on the other sink says so.
 pub fn deliver<O: Sink, E: Sink>(out: &mut O, err: &mut E, answer: &Result<Report, Stop>) -> Status
-    ensures { Delivers O.model E.model out.old err.old result out.new err.new (ending_of answer.now) }
+    ensures { Delivers O.model E.model out.old err.old result out.new err.new
+        (ending_of answer.now) }
 {
     match answer {
         Ok(report) => match write_all(out, report.text.as_slice()) {

@@ -1,4 +1,4 @@
-//! The command that tells why one package for each goal cannot be installed together.
+//! The command that says why one package for each goal cannot be installed together.
 ghost use Rattle.std.specs.Prelude.{length};
 ghost use Rattle.clause_solver.specs.Outcomes.{IsBudget};
 ghost use Rattle.coinst_words.specs.Jobs.{AreInLimits};
@@ -19,7 +19,7 @@ use repo_model::Goal;
 use std::alloc::Global;
 use suite_compare::SuiteView;
 
-/// The report on why goals cannot be met together in the index at a path, where they cannot.
+/// The report on why goals cannot be met together in the index at a path, if they cannot.
 pub fn explain<F: Shelf>(
     alloc: Global,
     shelf: &mut F,
@@ -28,7 +28,9 @@ pub fn explain<F: Shelf>(
     with: Settings,
 ) -> Result<Report, Stop>
     requires { AreInLimits with }
-    ensures { Follows F.model (explain_course path.now goals.now with.budget with.clause_limit with.hold) shelf.old (ending_of result) shelf.new }
+    ensures { Follows F.model
+        (explain_course path.now goals.now with.budget with.clause_limit with.hold)
+        shelf.old (ending_of result) shelf.new }
 {
     let view = view_at(alloc, shelf, path, with.clause_limit, with.hold)?;
     let report = explain_goals(alloc, &view, goals, with.budget);
@@ -44,7 +46,9 @@ fn explain_goals(
     budget: u64,
 ) -> Result<Report, Stop>
     requires { IsBudget budget }
-    ensures { Settles (answers (goals_explained goals.now budget view.now.limit view.now.kernel.hold (index_of view.now.suite))) (ending_of result) }
+    ensures { Settles
+        (answers (goals_explained goals.now budget view.now.limit view.now.kernel.hold
+        (index_of view.now.suite))) (ending_of result) }
 {
     match explain_core::explain(alloc, view, goals, budget) {
         Ok(explanation) => explanation_report(
@@ -69,7 +73,8 @@ fn explanation_report(
     explanation: &Explanation,
 ) -> Result<Report, Stop>
     requires { IsTellable (length packages.now) (length goals.now) explanation.now }
-    ensures { Settles (answers (explanation_answer packages.now goals.now budget explanation.now)) (ending_of result) }
+    ensures { Settles (answers (explanation_answer packages.now goals.now budget explanation.now))
+        (ending_of result) }
 {
     match explanation {
         Explanation::Yes => {

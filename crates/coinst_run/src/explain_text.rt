@@ -11,7 +11,7 @@ use relation_fields::PackageFacts;
 use repo_model::Goal;
 use std::alloc::Global;
 
-// Puts the line of a goal that matters, or may matter, behind the text.
+// Appends the line of a goal that matters, or may matter.
 #[tactic(auto, using(std::proofs::Common::append_assoc))]
 fn push_goal(out: &mut Vec<u8>, goal: &Goal, unsettled: bool) -> Put
     ensures { OnOk result (out.new.items ≡ out.old.items ++ goal_text unsettled goal.now) }
@@ -25,10 +25,11 @@ fn push_goal(out: &mut Vec<u8>, goal: &Goal, unsettled: bool) -> Put
     out.extend_from_slice(b"\n")
 }
 
-// Puts the lines of the goals that are marked behind the text.
+// Appends the lines of the goals that are marked.
 fn push_goals(out: &mut Vec<u8>, goals: &[Goal], marks: &[Mark]) -> Put
     requires { ArePlacesFrom1 (length goals.now) marks.now }
-    ensures { OnOk result (out.new.items ≡ out.old.items ++ flat_map (goal_line goals.now) marks.now) }
+    ensures { OnOk result (out.new.items
+        ≡ out.old.items ++ flat_map (goal_line goals.now) marks.now) }
 {
     for mark in marks {
         push_goal(out, goal_of_number(goals, mark.goal), mark.unsettled)?;
@@ -36,7 +37,7 @@ fn push_goals(out: &mut Vec<u8>, goals: &[Goal], marks: &[Mark]) -> Put
     Ok(())
 }
 
-// Puts the line of two packages whose conflict matters, or may matter, behind the text.
+// Appends the line of two packages whose conflict matters, or may matter.
 #[tactic(auto, using(std::proofs::Common::append_assoc))]
 fn push_clash(
     out: &mut Vec<u8>,
@@ -44,7 +45,8 @@ fn push_clash(
     second: &PackageFacts,
     unsettled: bool,
 ) -> Put
-    ensures { OnOk result (out.new.items ≡ out.old.items ++ clash_text unsettled first.now second.now) }
+    ensures { OnOk result (out.new.items
+        ≡ out.old.items ++ clash_text unsettled first.now second.now) }
 {
     if unsettled {
         out.extend_from_slice(b"clash-open ")?;
@@ -57,10 +59,11 @@ fn push_clash(
     out.extend_from_slice(b"\n")
 }
 
-// Puts the lines of conflicts behind the text.
+// Appends the lines of conflicts.
 fn push_clashes(out: &mut Vec<u8>, packages: &[PackageFacts], clashes: &[Clash]) -> Put
     requires { AreClashesOf (length packages.now) clashes.now }
-    ensures { OnOk result (out.new.items ≡ out.old.items ++ flat_map (clash_line packages.now) clashes.now) }
+    ensures { OnOk result (out.new.items
+        ≡ out.old.items ++ flat_map (clash_line packages.now) clashes.now) }
 {
     for clash in clashes {
         push_clash(
@@ -73,7 +76,7 @@ fn push_clashes(out: &mut Vec<u8>, packages: &[PackageFacts], clashes: &[Clash])
     Ok(())
 }
 
-// Puts the lines of conflicts behind the text, or the line that they are open as a whole.
+// Appends the lines of conflicts, or the line that they are open as a whole.
 fn push_reasons(out: &mut Vec<u8>, packages: &[PackageFacts], clashes: &Option<ClashList>) -> Put
     requires { IfSome clashes.now (AreClashesOf (length packages.now)) }
     ensures { OnOk result (out.new.items ≡ out.old.items ++ clashes_text packages.now clashes.now) }
@@ -84,7 +87,7 @@ fn push_reasons(out: &mut Vec<u8>, packages: &[PackageFacts], clashes: &Option<C
     }
 }
 
-// How many conflicts are told; none where they are open as a whole.
+// How many conflicts are printed; none if they are open as a whole.
 fn clash_count(clashes: &Option<ClashList>) -> usize
     ensures { result ≡ clash_count clashes.now }
 {
@@ -105,7 +108,8 @@ pub(crate) fn core_text(
 ) -> Made
     requires marks { ArePlacesFrom1 (length goals.now) marks.now }
     requires clashes { IfSome clashes.now (AreClashesOf (length packages.now)) }
-    ensures { IfOk result (λ text. text.items ≡ core_text packages.now goals.now marks.now clashes.now) }
+    ensures { IfOk result (λ text. text.items
+        ≡ core_text packages.now goals.now marks.now clashes.now) }
 {
     let mut text = Vec::new(alloc);
     push_goals(&mut text, goals, marks)?;

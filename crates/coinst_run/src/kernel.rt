@@ -23,7 +23,8 @@ pub fn kernel<F: Shelf>(
     with: Settings,
 ) -> Result<Report, Stop>
     requires { AreInLimits with }
-    ensures { Follows F.model (kernel_course path.now json with.clause_limit with.hold) shelf.old (ending_of result) shelf.new }
+    ensures { Follows F.model (kernel_course path.now json with.clause_limit with.hold) shelf.old
+        (ending_of result) shelf.new }
 {
     let view = view_at(alloc, shelf, path, with.clause_limit, with.hold)?;
     let report = kernel_report(alloc, &view, json);
@@ -34,7 +35,8 @@ pub fn kernel<F: Shelf>(
 // The report on the kernel of a view, as text or as JSON.
 fn kernel_report(alloc: Global, view: &SuiteView, json: bool) -> Result<Report, Stop>
     requires { AreNamedPackages view.now.suite.packages }
-    ensures { Settles (kernel_answer json (index_of view.now.suite) (index_kernel view.now.limit view.now.kernel.hold view.now.suite.home view.now.suite.packages)) (ending_of result) }
+    ensures { Settles (kernel_answer json (index_of view.now.suite) (index_kernel view.now.limit
+        view.now.kernel.hold view.now.suite.home view.now.suite.packages)) (ending_of result) }
 {
     Ok(Report::of(ReportVerdict::Done, printed_kernel(alloc, view, json)?))
 }
@@ -42,7 +44,9 @@ fn kernel_report(alloc: Global, view: &SuiteView, json: bool) -> Result<Report, 
 // The kernel of a view as text, or as JSON.
 fn printed_kernel(alloc: Global, view: &SuiteView, json: bool) -> Made
     requires { AreNamedPackages view.now.suite.packages }
-    ensures { IfOk result (λ text. text.items ≡ printed_kernel json view.now.suite.packages (index_kernel view.now.limit view.now.kernel.hold view.now.suite.home view.now.suite.packages)) }
+    ensures { IfOk result (λ text. text.items
+        ≡ printed_kernel json view.now.suite.packages (index_kernel view.now.limit
+        view.now.kernel.hold view.now.suite.home view.now.suite.packages)) }
 {
     if json {
         return kernel_json(alloc, &view.pool, &view.suite, &view.kernel);

@@ -1,4 +1,4 @@
-//! The program behind `coinst`: from words, files and streams to a status.
+//! The program `coinst`: from words, files and streams to a status.
 #![tactic(auto)]
 
 mod answer;

@@ -7,13 +7,13 @@ use repo_model::IndexFault;
 use stanza_reader::StanzaFault;
 use std::alloc::{AllocError, Global};
 
-/// What comes of putting bytes behind a text; it fails only where no memory is found.
+/// What appending bytes to a text returns.
 pub(crate) type Put = Result<(), AllocError>;
 
-/// What comes of making a text; it fails only where no memory is found.
+/// What making a text returns.
 pub(crate) type Made = Result<Vec<u8>, AllocError>;
 
-// Puts a number behind the text, in decimal digits.
+// Appends a number in decimal digits.
 fn push_number(out: &mut Vec<u8>, number: u64) -> Put
     ensures { OnOk result (out.new.items ≡ out.old.items ++ decimal number) }
 {
@@ -21,7 +21,7 @@ fn push_number(out: &mut Vec<u8>, number: u64) -> Put
     out.extend_from_slice(buffer.format(number).as_bytes())
 }
 
-/// Puts words and a number behind the text.
+/// Appends words and a number.
 #[tactic(auto, using(std::proofs::Common::append_assoc))]
 pub(crate) fn push_counted(out: &mut Vec<u8>, words: &[u8], number: u64) -> Put
     ensures { OnOk result (out.new.items ≡ out.old.items ++ (words.now ++ decimal number)) }
@@ -30,7 +30,7 @@ pub(crate) fn push_counted(out: &mut Vec<u8>, words: &[u8], number: u64) -> Put
     push_number(out, number)
 }
 
-/// Puts a line of words and a number behind the text.
+/// Appends a line of words and a number.
 #[tactic(auto, using(std::proofs::Common::append_assoc))]
 pub(crate) fn push_count(out: &mut Vec<u8>, words: &[u8], number: u64) -> Put
     ensures { OnOk result (out.new.items ≡ out.old.items ++ counted_line words.now number) }
@@ -39,7 +39,7 @@ pub(crate) fn push_count(out: &mut Vec<u8>, words: &[u8], number: u64) -> Put
     out.extend_from_slice(b"\n")
 }
 
-/// Puts what is told of a name behind the text.
+/// Appends the line of a word and a name.
 #[tactic(auto, using(std::proofs::Common::append_assoc))]
 pub(crate) fn push_single(out: &mut Vec<u8>, word: &[u8], name: &[u8]) -> Put
     ensures { OnOk result (out.new.items ≡ out.old.items ++ single_text word.now name.now) }
@@ -50,10 +50,11 @@ pub(crate) fn push_single(out: &mut Vec<u8>, word: &[u8], name: &[u8]) -> Put
     out.extend_from_slice(b"\n")
 }
 
-/// Puts what is told of two names, or of a name and a version, behind the text.
+/// Appends the line of a word and two names, or a name and a version.
 #[tactic(auto, using(std::proofs::Common::append_assoc))]
 pub(crate) fn push_pair(out: &mut Vec<u8>, word: &[u8], first: &[u8], second: &[u8]) -> Put
-    ensures { OnOk result (out.new.items ≡ out.old.items ++ pair_text word.now first.now second.now) }
+    ensures { OnOk result (out.new.items
+        ≡ out.old.items ++ pair_text word.now first.now second.now) }
 {
     out.extend_from_slice(word)?;
     out.extend_from_slice(b" ")?;
@@ -61,7 +62,7 @@ pub(crate) fn push_pair(out: &mut Vec<u8>, word: &[u8], first: &[u8], second: &[
     out.extend_from_slice(b"\n")
 }
 
-/// Puts the name and the version of a package behind the text.
+/// Appends the name and the version of a package.
 #[tactic(auto, using(std::proofs::Common::append_assoc))]
 pub(crate) fn push_versioned(out: &mut Vec<u8>, name: &[u8], version: &[u8]) -> Put
     ensures { OnOk result (out.new.items ≡ out.old.items ++ versioned_text name.now version.now) }
@@ -71,7 +72,7 @@ pub(crate) fn push_versioned(out: &mut Vec<u8>, name: &[u8], version: &[u8]) -> 
     out.extend_from_slice(version)
 }
 
-/// Puts the last line of a report, with two numbers, behind the text.
+/// Appends the last line of a report, with two numbers.
 #[tactic(auto, using(std::proofs::Common::append_assoc))]
 pub(crate) fn push_end(out: &mut Vec<u8>, first: usize, second: usize) -> Put
     ensures { OnOk result (out.new.items ≡ out.old.items ++ end_text first second) }
@@ -80,7 +81,7 @@ pub(crate) fn push_end(out: &mut Vec<u8>, first: usize, second: usize) -> Put
     push_count(out, b" ", second as u64)
 }
 
-/// Puts what is wrong at a line of a file behind the text.
+/// Appends what is wrong at a line of a file.
 #[tactic(auto, using(std::proofs::Common::append_assoc))]
 pub(crate) fn push_at_line(out: &mut Vec<u8>, line: u64, words: &[u8]) -> Put
     ensures { OnOk result (out.new.items ≡ out.old.items ++ at_line line words.now) }
@@ -90,16 +91,17 @@ pub(crate) fn push_at_line(out: &mut Vec<u8>, line: u64, words: &[u8]) -> Put
     out.extend_from_slice(words)
 }
 
-// Puts the same behind the text, with a number behind it.
+// Appends what is wrong at a line of a file, followed by a number.
 #[tactic(auto, using(std::proofs::Common::append_assoc))]
 fn push_numbered(out: &mut Vec<u8>, line: u64, words: &[u8], behind: u64) -> Put
-    ensures { OnOk result (out.new.items ≡ out.old.items ++ (at_line line words.now ++ decimal behind)) }
+    ensures { OnOk result (out.new.items
+        ≡ out.old.items ++ (at_line line words.now ++ decimal behind)) }
 {
     push_at_line(out, line, words)?;
     push_number(out, behind)
 }
 
-// Puts what is wrong with the lines of a stanza behind the text.
+// Appends what is wrong with the lines of a stanza.
 fn push_shape(out: &mut Vec<u8>, fault: StanzaFault) -> Put
     ensures { OnOk result (out.new.items ≡ out.old.items ++ shape_text fault) }
 {
@@ -114,7 +116,7 @@ fn push_shape(out: &mut Vec<u8>, fault: StanzaFault) -> Put
     }
 }
 
-// Puts what is wrong with an index behind the text.
+// Appends what is wrong with an index.
 fn push_fault(out: &mut Vec<u8>, fault: IndexFault) -> Put
     ensures { OnOk result (out.new.items ≡ out.old.items ++ fault_text fault) }
 {
@@ -167,7 +169,7 @@ pub(crate) fn too_long_line(alloc: Global, path: &str) -> Made
     line_about(alloc, path, b"longer than 1073741824 bytes")
 }
 
-/// Puts which clause limit was passed, and when, behind the text.
+/// Appends which clause limit was passed, and when.
 #[tactic(auto, using(std::proofs::Common::append_assoc))]
 pub(crate) fn push_stage(out: &mut Vec<u8>, limit: u64, round: u64, gone: u64) -> Put
     ensures { OnOk result (out.new.items ≡ out.old.items ++ stage_text limit round gone) }
@@ -180,7 +182,7 @@ pub(crate) fn push_stage(out: &mut Vec<u8>, limit: u64, round: u64, gone: u64) -
     push_number(out, gone)
 }
 
-/// Puts which package passed it, and by how many clauses, behind the text.
+/// Appends which package passed it, and by how many clauses.
 #[tactic(auto, using(std::proofs::Common::append_assoc))]
 pub(crate) fn push_row(out: &mut Vec<u8>, name: &[u8], version: &[u8], count: u64) -> Put
     ensures { OnOk result (out.new.items ≡ out.old.items ++ row_text name.now version.now count) }

@@ -20,8 +20,8 @@ use repo_model::Suite;
 use std::alloc::Global;
 use suite_compare::SuiteView;
 
-/// The report on which names that differ can be taken over from the index at the newer path into that at the older one. Of each text only
-/// the stanza that is open is held.
+/// The report on which names that differ can be taken over from the index at the newer path into
+/// that at the older one. Of each text only the stanza that is open is held.
 pub fn migrate<F: Shelf>(
     alloc: Global,
     shelf: &mut F,
@@ -30,7 +30,9 @@ pub fn migrate<F: Shelf>(
     with: Settings,
 ) -> Result<Report, Stop>
     requires { AreInLimits with }
-    ensures { Follows F.model (migrate_course old.now new.now with.budget with.clause_limit with.hold) shelf.old (ending_of result) shelf.new }
+    ensures { Follows F.model
+        (migrate_course old.now new.now with.budget with.clause_limit with.hold)
+        shelf.old (ending_of result) shelf.new }
 {
     let older = measured_at(alloc, shelf, old)?;
     let MeasuredIndex { suite, length } = older;
@@ -40,7 +42,7 @@ pub fn migrate<F: Shelf>(
     report
 }
 
-// The same after the kernel of the older index.
+// The report, once the kernel of the older index is made.
 fn with_newer<F: Shelf>(
     alloc: Global,
     shelf: &mut F,
@@ -53,8 +55,11 @@ fn with_newer<F: Shelf>(
     requires short { old_length ≤ most_bytes }
     requires budget { IsBudget budget }
     requires limit { 0 < view.now.limit }
-    ensures { (text : List ℕ) → IsSuiteOf text view.now.suite.packages view.now.suite.home.name → old_length ≡ length text
-        → Follows F.model (new_course old.now new.now (plan_settings budget view.now.limit view.now.kernel.hold) text) shelf.old (ending_of result) shelf.new }
+    ensures { (text : List ℕ) → IsSuiteOf text view.now.suite.packages view.now.suite.home.name →
+        old_length ≡ length text
+        → Follows F.model (new_course old.now new.now
+        (plan_settings budget view.now.limit view.now.kernel.hold) text)
+        shelf.old (ending_of result) shelf.new }
 {
     let newer = measured_at(alloc, shelf, new)?;
     let lengths = TextLengths {
@@ -82,7 +87,9 @@ fn plan_report(
     requires budget { IsBudget budget }
     requires limit { 0 < view.now.limit }
     ensures { (texts : Texts) → AreMeasured texts view.now.suite newer.now lengths
-        → Settles (plan_answer old.now new.now (plan_settings budget view.now.limit view.now.kernel.hold) texts.old texts.new) (ending_of result) }
+        → Settles (plan_answer old.now new.now
+        (plan_settings budget view.now.limit view.now.kernel.hold)
+        texts.old texts.new) (ending_of result) }
 {
     match plan_between(alloc, view, newer, lengths, budget) {
         Ok(plan) => {
@@ -93,9 +100,10 @@ fn plan_report(
     }
 }
 
-// The stop where no plan is made of the indexes at two paths.
+// The stop if no plan is made of the indexes at two paths.
 fn refusal(alloc: Global, old: &str, new: &str, error: PlanError) -> Stop
-    ensures { (lines : List PlanLine) (there : Option PlanError) → RefusesPlan error there → StopsAt (by_refusal old.now new.now lines there) (stop_ending result) }
+    ensures { (lines : List PlanLine) (there : Option PlanError) → RefusesPlan error there →
+        StopsAt (by_refusal old.now new.now lines there) (stop_ending result) }
 {
     match error {
         PlanError::Homes => Stop::refused(Cause::Content, homes_line(alloc, old, new)),

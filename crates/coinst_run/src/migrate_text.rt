@@ -9,10 +9,11 @@ use migrate_plan::PlanLine;
 use std::alloc::Global;
 use suite_compare::ReportLine;
 
-// Puts a name that is left, with a line of a comparison, behind the text.
+// Appends a name that is left, with a line of a comparison.
 #[tactic(auto, using(std::proofs::Common::append_assoc))]
 fn push_left(out: &mut Vec<u8>, name: &[u8], line: &ReportLine) -> Put
-    ensures { OnOk result (out.new.items ≡ out.old.items ++ (codes "left " ++ name.now ++ codes " " ++ comparison_line line.now)) }
+    ensures { OnOk result (out.new.items
+        ≡ out.old.items ++ (codes "left " ++ name.now ++ codes " " ++ comparison_line line.now)) }
 {
     out.extend_from_slice(b"left ")?;
     out.extend_from_slice(name)?;
@@ -20,7 +21,7 @@ fn push_left(out: &mut Vec<u8>, name: &[u8], line: &ReportLine) -> Put
     push_line(out, line)
 }
 
-// Puts what becomes of a name behind the text.
+// Appends what becomes of a name.
 fn push_plan_line(out: &mut Vec<u8>, line: &PlanLine) -> Put
     ensures { OnOk result (out.new.items ≡ out.old.items ++ plan_line line.now) }
 {
@@ -101,7 +102,7 @@ fn has_left(lines: &[PlanLine]) -> bool
     lines.iter().any(|line| !is_take(line))
 }
 
-/// What the lines of a plan say as a whole; it takes no memory.
+/// What the lines of a plan say as a whole.
 pub(crate) fn plan_verdict(lines: &[PlanLine]) -> ReportVerdict
     ensures { result ≡ plan_verdict lines.now }
 {

@@ -23,7 +23,9 @@ pub fn query<F: Shelf>(
     with: Settings,
 ) -> Result<Report, Stop>
     requires { AreInLimits with }
-    ensures { Follows F.model (query_course path.now goals.now with.budget with.clause_limit with.hold) shelf.old (ending_of result) shelf.new }
+    ensures { Follows F.model
+        (query_course path.now goals.now with.budget with.clause_limit with.hold)
+        shelf.old (ending_of result) shelf.new }
 {
     let view = view_at(alloc, shelf, path, with.clause_limit, with.hold)?;
     let report = goals_report(alloc, &view, goals, with.budget);
@@ -43,7 +45,8 @@ pub(crate) fn goal_of_number(goals: &[Goal], number: u64) -> &Goal
 /// The stop of the goal of a number, counted from 1, that is the first to name no package.
 pub(crate) fn unknown_goal(alloc: Global, goals: &[Goal], number: u64) -> Stop
     requires { (0 < number) × (number ≤ length goals.now) }
-    ensures { IfSome (stop_ending result) (λ outcome. outcome ≡ answered (unknown_answer goals.now number)) }
+    ensures { IfSome (stop_ending result) (λ outcome. outcome
+        ≡ answered (unknown_answer goals.now number)) }
 {
     let goal = goal_of_number(goals, number);
     Stop::refused(Cause::UnknownGoal, unknown_line(alloc, number, goal))
@@ -57,7 +60,9 @@ fn goals_report(
     budget: u64,
 ) -> Result<Report, Stop>
     requires { IsBudget budget }
-    ensures { Settles (answers (goals_answer goals.now budget view.now.limit view.now.kernel.hold (index_of view.now.suite))) (ending_of result) }
+    ensures { Settles
+        (answers (goals_answer goals.now budget view.now.limit view.now.kernel.hold
+        (index_of view.now.suite))) (ending_of result) }
 {
     match decide(alloc, view, goals, budget) {
         Ok(Answer::Yes { install, .. }) => Ok(Report::of(

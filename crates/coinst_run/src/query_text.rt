@@ -11,17 +11,18 @@ use repo_model::Goal;
 use search_terms::{Literal, Log};
 use std::alloc::Global;
 
-// Puts the line of a package that is installed behind the text.
+// Appends the line of a package that is installed.
 fn push_install(out: &mut Vec<u8>, facts: &PackageFacts) -> Put
     ensures { OnOk result (out.new.items ≡ out.old.items ++ install_line facts.now) }
 {
     push_pair(out, b"install", facts.name.as_slice(), facts.version.text())
 }
 
-// Puts the lines of the packages with these numbers behind the text.
+// Appends the lines of the packages with these numbers.
 fn push_installs(out: &mut Vec<u8>, packages: &[PackageFacts], numbers: &[u32]) -> Put
     requires { (n : ℕ) → In n numbers.now → n < length packages.now }
-    ensures { OnOk result (out.new.items ≡ out.old.items ++ flat_map (λ n. install_line (stanza_at packages.now n)) numbers.now) }
+    ensures { OnOk result (out.new.items
+        ≡ out.old.items ++ flat_map (λ n. install_line (stanza_at packages.now n)) numbers.now) }
 {
     for number in numbers {
         push_install(out, &packages[*number as usize])?;
@@ -40,7 +41,7 @@ pub(crate) fn yes_text(alloc: Global, packages: &[PackageFacts], numbers: &[u32]
     Ok(text)
 }
 
-// Puts a class that holds, or does not, behind the text.
+// Appends a class that holds, or one that does not.
 fn push_literal(out: &mut Vec<u8>, literal: Literal) -> Put
     ensures { OnOk result (out.new.items ≡ out.old.items ++ literal_text literal) }
 {
@@ -48,7 +49,7 @@ fn push_literal(out: &mut Vec<u8>, literal: Literal) -> Put
     push_counted(out, sign, u64::from(literal.class))
 }
 
-// Puts the line of an entry behind the text.
+// Appends the line of an entry.
 #[tactic(auto, using(std::proofs::Common::append_assoc))]
 fn push_log_line(out: &mut Vec<u8>, entry: &[Literal]) -> Put
     ensures { OnOk result (out.new.items ≡ out.old.items ++ log_line entry.now) }
@@ -83,7 +84,7 @@ pub(crate) fn undecided_text(alloc: Global, budget: u64) -> Made
     Ok(text)
 }
 
-// Puts the version that a goal asks for behind its name.
+// Appends the version that a goal asks for to its name.
 fn push_version(out: &mut Vec<u8>, version: &Option<Version>) -> Put
     ensures { OnOk result (out.new.items ≡ out.old.items ++ version_word version.now) }
 {
@@ -96,7 +97,7 @@ fn push_version(out: &mut Vec<u8>, version: &Option<Version>) -> Put
     }
 }
 
-/// Puts the word of a goal behind the text.
+/// Appends the word of a goal.
 #[tactic(auto, using(std::proofs::Common::append_assoc))]
 pub(crate) fn push_goal_word(out: &mut Vec<u8>, goal: &Goal) -> Put
     ensures { OnOk result (out.new.items ≡ out.old.items ++ goal_word goal.now) }

@@ -1,4 +1,4 @@
-//! The command that extracts the kernel of a suite made from a number, and tells its size.
+//! The command that extracts the kernel of a suite made from a number, and prints its size.
 //!
 //! It searches nothing, so it takes no budget.
 ghost use Rattle.std.specs.Prelude.{◌≡◌, ◌<◌, ℕ, Ok, IfOk, IfErr, IfSome, filter, length, ltb, sum_by};
@@ -21,7 +21,7 @@ use suite_compare::SuiteView;
 /// The clause limit of the command, which works without hold.
 const CLAUSE_LIMIT: u32 = 65_536;
 
-/// The report on the size of the kernel of a suite of so many packages; it reads no file.
+/// The report on the size of the kernel of a suite of `count` packages; it reads no file.
 pub fn sample(alloc: Global, seed: u64, count: u32) -> Result<Report, Stop>
     requires { IsCount count }
     ensures { Settles (sample_course seed count) (ending_of result) }
@@ -31,11 +31,13 @@ pub fn sample(alloc: Global, seed: u64, count: u32) -> Result<Report, Stop>
     Ok(Report::of(ReportVerdict::Done, size_report(alloc, &view)?))
 }
 
-// The suite of so many packages; its text is dropped.
+// The suite of `count` packages; its text is dropped.
 fn suite_of(alloc: Global, seed: u64, count: u32) -> Result<Suite, Stop>
     requires { IsCount count }
-    ensures suite { IfOk result (λ suite. checked_index sample_path (sample_text seed count) ≡ Ok (index_of suite)) }
-    ensures stop { IfErr result (λ stop. StopsAt (checked_index sample_path (sample_text seed count)) (stop_ending stop)) }
+    ensures suite { IfOk result (λ suite. checked_index sample_path (sample_text seed count)
+        ≡ Ok (index_of suite)) }
+    ensures stop { IfErr result (λ stop.
+        StopsAt (checked_index sample_path (sample_text seed count)) (stop_ending stop)) }
 {
     let text = sample_text(alloc, seed, count)?;
     checked_index(alloc, "sample", text.as_slice())
@@ -43,7 +45,9 @@ fn suite_of(alloc: Global, seed: u64, count: u32) -> Result<Suite, Stop>
 
 // The line on the size of the kernel of a view.
 fn size_report(alloc: Global, view: &SuiteView) -> Result<Vec<u8>, Stop>
-    ensures line { IfOk result (λ line. line.items ≡ size_report view.now.suite.packages (index_kernel view.now.limit view.now.kernel.hold view.now.suite.home view.now.suite.packages)) }
+    ensures line { IfOk result (λ line. line.items
+        ≡ size_report view.now.suite.packages (index_kernel view.now.limit view.now.kernel.hold
+        view.now.suite.home view.now.suite.packages)) }
     ensures stop { IfErr result (λ stop. stop ≡ Stop.Memory) }
 {
     // A kernel of more lines than 64 bits count finds no memory.
@@ -62,10 +66,11 @@ fn size_report(alloc: Global, view: &SuiteView) -> Result<Vec<u8>, Stop>
     )?)
 }
 
-// How many clauses the classes have together, where 64 bits count them.
+// How many clauses the classes have together, if 64 bits count them.
 fn clause_count(pool: &Pool, book: &Book) -> Option<u64>
     requires { Sound pool.now book.now }
-    ensures { IfSome result (λ count. count ≡ sum_by (λ n. length (clauses_of (repository_of pool.now book.now) n)) (numbers (length book.now.rows) 0)) }
+    ensures { IfSome result (λ count. count ≡ sum_by (λ n. length
+        (clauses_of (repository_of pool.now book.now) n)) (numbers (length book.now.rows) 0)) }
 {
     let mut count = 0;
     for class in 0..book.size() {
@@ -83,9 +88,11 @@ fn row_length(pool: &Pool, book: &Book, class: u32) -> u64
     pool.row(book.row(class)).len() as u64
 }
 
-// How many conflicts there are, each counted once, where 64 bits count them.
+// How many conflicts there are, each counted once, if 64 bits count them.
 fn conflict_count(book: &Book) -> Option<u64>
-    ensures { IfSome result (λ count. count ≡ sum_by (λ n. length (filter (λ m. ltb n m) (listed_for book.now.conflicts n))) (numbers (length book.now.rows) 0)) }
+    ensures { IfSome result (λ count. count ≡ sum_by
+        (λ n. length (filter (λ m. ltb n m) (listed_for book.now.conflicts n)))
+        (numbers (length book.now.rows) 0)) }
 {
     let mut count = 0;
     for class in 0..book.size() {

@@ -51,7 +51,8 @@ fn unread(alloc: Global, path: &str, error: ReadError) -> Stop
 /// Reads the file at a path whole.
 pub(crate) fn text_at<F: Shelf>(alloc: Global, shelf: &mut F, path: &str) -> Result<Vec<u8>, Stop>
     ensures text { IfOk result (λ text. WasRead F.model shelf.old path.now text.items shelf.new) }
-    ensures stop { IfErr result (λ stop. (next : List ℕ → Course) → Follows F.model (reads path.now next) shelf.old (stop_ending stop) shelf.new) }
+    ensures stop { IfErr result (λ stop. (next : List ℕ → Course) →
+        Follows F.model (reads path.now next) shelf.old (stop_ending stop) shelf.new) }
 {
     match read_file(alloc, shelf, path, FILE_LIMIT) {
         Ok(text) => Ok(text),
@@ -68,7 +69,8 @@ fn is_memory(fault: IndexFault) -> bool
 
 /// The stop of the file at a path with this fault.
 pub(crate) fn faulty(alloc: Global, path: &str, fault: IndexFault) -> Stop
-    ensures { (text : List ℕ) (there : Option IndexFault) → Refuses fault there → StopsAt (by_fault path.now text there) (stop_ending result) }
+    ensures { (text : List ℕ) (there : Option IndexFault) → Refuses fault there →
+        StopsAt (by_fault path.now text there) (stop_ending result) }
 {
     if is_memory(fault) {
         return Stop::Memory;
@@ -81,7 +83,8 @@ pub fn checked_index(alloc: Global, path: &str, text: &[u8]) -> Result<Suite, St
     requires { length text.now ≤ most_bytes }
     ensures suite { IfOk result (λ suite. checked_index path.now text.now ≡ Ok (index_of suite)) }
     ensures named { IfOk result (λ suite. AreNamedPackages suite.packages) }
-    ensures stop { IfErr result (λ stop. StopsAt (checked_index path.now text.now) (stop_ending stop)) }
+    ensures stop { IfErr result (λ stop.
+        StopsAt (checked_index path.now text.now) (stop_ending stop)) }
 {
     match read_suite(alloc, text) {
         Ok(suite) => Ok(suite),
@@ -92,7 +95,8 @@ pub fn checked_index(alloc: Global, path: &str, text: &[u8]) -> Result<Suite, St
 // Gives the file at a path whole to a feed, piece by piece.
 fn feed_at<F: Shelf>(alloc: Global, shelf: &mut F, path: &str) -> Result<SuiteFeed, Stop>
     ensures fed { IfOk result (λ feed. WasFed F.model shelf.old path.now feed shelf.new) }
-    ensures stop { IfErr result (λ stop. (next : List ℕ → Course) → Follows F.model (reads path.now next) shelf.old (stop_ending stop) shelf.new) }
+    ensures stop { IfErr result (λ stop. (next : List ℕ → Course) →
+        Follows F.model (reads path.now next) shelf.old (stop_ending stop) shelf.new) }
 {
     let mut feed = SuiteFeed::new(alloc)?;
     match feed_file(alloc, shelf, path, FILE_LIMIT, &mut feed) {
@@ -103,9 +107,12 @@ fn feed_at<F: Shelf>(alloc: Global, shelf: &mut F, path: &str) -> Result<SuiteFe
 
 // The packages of the index that a feed stands for, or the refusal of its first fault.
 fn finished_index(alloc: Global, path: &str, feed: SuiteFeed) -> Result<Suite, Stop>
-    ensures suite { IfOk result (λ suite. (text : List ℕ) → FeedStandsFor feed text → checked_index path.now text ≡ Ok (index_of suite)) }
-    ensures named { IfOk result (λ suite. (text : List ℕ) → FeedStandsFor feed text → AreNamedPackages suite.packages) }
-    ensures stop { IfErr result (λ stop. (text : List ℕ) → FeedStandsFor feed text → StopsAt (checked_index path.now text) (stop_ending stop)) }
+    ensures suite { IfOk result (λ suite. (text : List ℕ) → FeedStandsFor feed text →
+        checked_index path.now text ≡ Ok (index_of suite)) }
+    ensures named { IfOk result (λ suite. (text : List ℕ) → FeedStandsFor feed text →
+        AreNamedPackages suite.packages) }
+    ensures stop { IfErr result (λ stop. (text : List ℕ) → FeedStandsFor feed text →
+        StopsAt (checked_index path.now text) (stop_ending stop)) }
 {
     match feed.finish() {
         Ok(suite) => Ok(suite),
@@ -113,12 +120,14 @@ fn finished_index(alloc: Global, path: &str, feed: SuiteFeed) -> Result<Suite, S
     }
 }
 
-/// Reads the index at a path whole, piece by piece, and checks it as it is read, or says why it cannot be used. Of its text
-/// only the stanza that is open is held.
+/// Reads the index at a path whole, piece by piece, and checks it as it is read, or says why it
+/// cannot be used. Of its text only the stanza that is open is held.
 pub fn suite_at<F: Shelf>(alloc: Global, shelf: &mut F, path: &str) -> Result<Suite, Stop>
-    ensures suite { IfOk result (λ suite. ReachesIndex F.model shelf.old path.now (index_of suite) shelf.new) }
+    ensures suite { IfOk result (λ suite.
+        ReachesIndex F.model shelf.old path.now (index_of suite) shelf.new) }
     ensures named { IfOk result (λ suite. AreNamedPackages suite.packages) }
-    ensures stop { IfErr result (λ stop. (next : Index → Course) → Follows F.model (reads_index path.now next) shelf.old (stop_ending stop) shelf.new) }
+    ensures stop { IfErr result (λ stop. (next : Index → Course) →
+        Follows F.model (reads_index path.now next) shelf.old (stop_ending stop) shelf.new) }
 {
     let feed = feed_at(alloc, shelf, path)?;
     finished_index(alloc, path, feed)
@@ -138,7 +147,8 @@ pub(crate) fn measured_at<F: Shelf>(
     path: &str,
 ) -> Result<MeasuredIndex, Stop>
     ensures index { IfOk result (λ made. WasMeasured F.model shelf.old path.now made shelf.new) }
-    ensures stop { IfErr result (λ stop. (next : List ℕ → Course) → ((text : List ℕ) → StopsAt (checked_index path.now text) (stop_ending stop) → Settles (next text) (stop_ending stop))
+    ensures stop { IfErr result (λ stop. (next : List ℕ → Course) → ((text : List ℕ) → StopsAt
+        (checked_index path.now text) (stop_ending stop) → Settles (next text) (stop_ending stop))
         → Follows F.model (reads path.now next) shelf.old (stop_ending stop) shelf.new) }
 {
     let feed = feed_at(alloc, shelf, path)?;

@@ -3,9 +3,11 @@
 /// How a run ended; its code is the exit status of the program.
 #[derive(Clone, Copy, Debug, PartialEq, Eq)]
 pub enum Status {
-    /// 0: done; yes; nothing broken and nothing open; a system that stands, by itself and from the index; every name taken.
+    /// 0: done; yes; nothing broken and nothing open; a system that stands, by itself and from the
+    /// index; every name taken.
     Done,
-    /// 1: no; a core; something broken; a system that does not stand; a name left since something would be broken.
+    /// 1: no; a core; something broken; a system that does not stand; a name left since something
+    /// would be broken.
     Negative,
     /// 2: the words are no command of the program.
     Words,
@@ -31,7 +33,7 @@ impl Status {
     ghost use Rattle.std.specs.Prelude.{◌≡◌};
     ghost use Rattle.coinst_run.specs.Status.{code_of};
 
-    /// The exit status, from 0 to 10; it takes no memory.
+    /// The exit status, from 0 to 10.
     pub fn code(&self) -> u8
         ensures { result ≡ code_of self.now }
     {

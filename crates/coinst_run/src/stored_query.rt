@@ -1,4 +1,5 @@
-//! The command that asks of a stored kernel whether one package for each goal can be installed together.
+//! The command that asks of a stored kernel whether one package for each goal can be installed
+//! together.
 ghost use Rattle.std.specs.{Prelude.{◌≡◌, ◌++◌, ◌<◌, ◌≤◌, Ok, OnOk, IfOk, IfErr, IfSome, filter, length}, List.{flat_map}};
 ghost use Rattle.clause_solver.specs.Outcomes.{IsBudget};
 ghost use Rattle.coinst_words.specs.Jobs.{AreInLimits};
@@ -33,7 +34,8 @@ pub fn stored_query<F: Shelf>(
     with: Settings,
 ) -> Result<Report, Stop>
     requires { AreInLimits with }
-    ensures { Follows F.model (stored_query_course path.now goals.now with.budget) shelf.old (ending_of result) shelf.new }
+    ensures { Follows F.model (stored_query_course path.now goals.now with.budget) shelf.old
+        (ending_of result) shelf.new }
 {
     let text = text_at(alloc, shelf, path)?;
     stored_report(alloc, text.as_slice(), path, goals, with.budget)
@@ -66,10 +68,13 @@ fn checked_kernel(
     text: &[u8],
 ) -> Result<StoredKernel, Stop>
     requires { length text.now ≤ most_bytes }
-    ensures kernel { IfOk result (λ stored. checked_kernel path.now text.now ≡ Ok (content stored.format (repository_of pool.new stored.book) stored.members stored.held)) }
+    ensures kernel { IfOk result (λ stored. checked_kernel path.now text.now ≡ Ok
+        (content stored.format (repository_of pool.new stored.book) stored.members stored.held)) }
     ensures sound { IfOk result (λ stored. Sound pool.new stored.book) }
-    ensures repository { IfOk result (λ stored. SoundRepository (repository_of pool.new stored.book)) }
-    ensures stop { IfErr result (λ stop. StopsAt (checked_kernel path.now text.now) (stop_ending stop)) }
+    ensures repository { IfOk result (λ stored.
+        SoundRepository (repository_of pool.new stored.book)) }
+    ensures stop { IfErr result (λ stop.
+        StopsAt (checked_kernel path.now text.now) (stop_ending stop)) }
 {
     match read_kernel(alloc, text, pool) {
         Ok(stored) => Ok(stored),
@@ -82,7 +87,8 @@ fn checked_kernel(
 
 // The stop of a text with a fault.
 fn faulty(alloc: Global, path: &str, fault: KernelFault) -> Stop
-    ensures { IfSome (stop_ending result) (λ outcome. outcome ≡ answered (refused Content (kernel_fault_line path.now fault))) }
+    ensures { IfSome (stop_ending result) (λ outcome. outcome
+        ≡ answered (refused Content (kernel_fault_line path.now fault))) }
 {
     Stop::refused(Cause::Content, kernel_fault_line(alloc, path, fault))
 }
@@ -98,7 +104,9 @@ fn goals_report(
     requires sound { Sound pool.now stored.now.book }
     requires repository { SoundRepository (repository_of pool.now stored.now.book) }
     requires budget { IsBudget budget }
-    ensures { Settles (answers (stored_answer goals.now budget (content stored.now.format (repository_of pool.now stored.now.book) stored.now.members stored.now.held))) (ending_of result) }
+    ensures { Settles (answers (stored_answer goals.now budget (content stored.now.format
+        (repository_of pool.now stored.now.book) stored.now.members stored.now.held)))
+        (ending_of result) }
 {
     match stored.images(alloc, goals) {
         Ok(needs) => tree_report(alloc, pool, &stored.book, &needs, budget),
@@ -107,7 +115,7 @@ fn goals_report(
     }
 }
 
-// The report on classes of which one is wanted each.
+// The report on needs of classes: one class of each is wanted.
 fn tree_report(
     alloc: Global,
     pool: &Pool,
@@ -119,7 +127,8 @@ fn tree_report(
     requires repository { SoundRepository (repository_of pool.now book.now) }
     requires fit { NeedsFit (length book.now.rows) needs.now }
     requires budget { IsBudget budget }
-    ensures { Settles (answers (by_tree classes_text budget (tree_of (repository_of pool.now book.now) needs.now))) (ending_of result) }
+    ensures { Settles (answers (by_tree classes_text budget
+        (tree_of (repository_of pool.now book.now) needs.now))) (ending_of result) }
 {
     match search(alloc, pool, book, needs, budget)? {
         Outcome::Found { chosen } => Ok(Report::of(
@@ -134,9 +143,10 @@ fn tree_report(
     }
 }
 
-// Puts the lines of the classes whose flags are up behind the text.
+// Appends the lines of the classes whose flags are up.
 fn push_classes(out: &mut Vec<u8>, chosen: &[bool]) -> Put
-    ensures { OnOk result (out.new.items ≡ out.old.items ++ flat_map class_line (filter (flag chosen.now) (numbers (length chosen.now) 0))) }
+    ensures { OnOk result (out.new.items ≡ out.old.items
+        ++ flat_map class_line (filter (flag chosen.now) (numbers (length chosen.now) 0))) }
 {
     for number in 0..chosen.len() {
         if chosen[number] {
@@ -156,7 +166,7 @@ fn classes_text(alloc: Global, chosen: &[bool]) -> Made
     Ok(text)
 }
 
-// Puts why a text is not that of a kernel behind the text.
+// Appends why a text is not that of a kernel.
 fn push_kernel_fault(out: &mut Vec<u8>, fault: KernelFault) -> Put
     ensures { OnOk result (out.new.items ≡ out.old.items ++ kernel_fault_text fault) }
 {

@@ -16,7 +16,8 @@ use status_check::status_report;
 use std::alloc::Global;
 use suite_compare::SuiteView;
 
-/// The report on the installed system of the status file at a path against the index at another, which is read first.
+/// The report on the installed system of the status file at a path against the index at another,
+/// which is read first.
 pub fn system_status<F: Shelf>(
     alloc: Global,
     shelf: &mut F,
@@ -25,7 +26,9 @@ pub fn system_status<F: Shelf>(
     with: Settings,
 ) -> Result<Report, Stop>
     requires { AreInLimits with }
-    ensures { Follows F.model (status_course file.now index.now with.budget with.clause_limit with.hold) shelf.old (ending_of result) shelf.new }
+    ensures { Follows F.model
+        (status_course file.now index.now with.budget with.clause_limit with.hold)
+        shelf.old (ending_of result) shelf.new }
 {
     let view = view_at(alloc, shelf, index, with.clause_limit, with.hold)?;
     let report = system_at(alloc, shelf, &view, file, with.budget);
@@ -42,7 +45,8 @@ fn system_at<F: Shelf>(
     budget: u64,
 ) -> Result<Report, Stop>
     requires { IsBudget budget }
-    ensures { Follows F.model (reads file.now (system_answer file.now budget view.now.limit view.now.kernel.hold (index_of view.now.suite))) shelf.old (ending_of result) shelf.new }
+    ensures { Follows F.model (reads file.now (system_answer file.now budget view.now.limit
+        view.now.kernel.hold (index_of view.now.suite))) shelf.old (ending_of result) shelf.new }
 {
     let text = text_at(alloc, shelf, file)?;
     system_report(alloc, view, text.as_slice(), file, budget)
@@ -58,7 +62,9 @@ fn system_report(
 ) -> Result<Report, Stop>
     requires budget { IsBudget budget }
     requires short { length text.now ≤ most_bytes }
-    ensures { Settles (system_answer path.now budget view.now.limit view.now.kernel.hold (index_of view.now.suite) text.now) (ending_of result) }
+    ensures { Settles
+        (system_answer path.now budget view.now.limit view.now.kernel.hold
+        (index_of view.now.suite) text.now) (ending_of result) }
 {
     match status_report(alloc, view, text, budget) {
         Ok(report) => Ok(Report::of(

@@ -7,7 +7,7 @@ use crate::lines::{Made, Put, push_count, push_end, push_pair, push_versioned};
 use status_check::{HaveLine, OwnState, StatusReport, SuiteState};
 use std::alloc::Global;
 
-// Puts the line of an own package behind the text.
+// Appends the line of an own package.
 fn push_have(out: &mut Vec<u8>, line: &HaveLine) -> Put
     ensures { OnOk result (out.new.items ≡ out.old.items ++ have_text line.now) }
 {
@@ -15,7 +15,7 @@ fn push_have(out: &mut Vec<u8>, line: &HaveLine) -> Put
     push_pair(out, word, line.name.as_slice(), line.version.as_slice())
 }
 
-// Puts the own package with a need that none of them meets behind the text.
+// Appends the own package with a need that none of them meets.
 fn push_unhit(out: &mut Vec<u8>, line: &HaveLine) -> Put
     ensures { OnOk result (out.new.items ≡ out.old.items ++ unhit_text line.now) }
 {
@@ -27,7 +27,7 @@ fn push_unhit(out: &mut Vec<u8>, line: &HaveLine) -> Put
     )
 }
 
-// Puts the two own packages that conflict behind the text.
+// Appends the two own packages that conflict.
 #[tactic(auto, using(std::proofs::Common::append_assoc))]
 fn push_clash(out: &mut Vec<u8>, first: &HaveLine, second: &HaveLine) -> Put
     ensures { OnOk result (out.new.items ≡ out.old.items ++ clash_text first.now second.now) }
@@ -39,7 +39,7 @@ fn push_clash(out: &mut Vec<u8>, first: &HaveLine, second: &HaveLine) -> Put
     out.extend_from_slice(b"\n")
 }
 
-// Puts whether the own packages stand together behind the text.
+// Appends whether the own packages are healthy.
 fn push_own(out: &mut Vec<u8>, lines: &[HaveLine], own: OwnState) -> Put
     requires { AreOfLines lines.now own }
     ensures { OnOk result (out.new.items ≡ out.old.items ++ own_text lines.now own) }
@@ -53,7 +53,7 @@ fn push_own(out: &mut Vec<u8>, lines: &[HaveLine], own: OwnState) -> Put
     }
 }
 
-// Puts whether the index can install what it has behind the text.
+// Appends whether what the index has can be installed from it together.
 fn push_suite(out: &mut Vec<u8>, state: SuiteState, budget: u64) -> Put
     ensures { OnOk result (out.new.items ≡ out.old.items ++ suite_text budget state) }
 {
@@ -96,7 +96,7 @@ pub(crate) fn system_text(alloc: Global, report: &StatusReport, budget: u64) -> 
     Ok(text)
 }
 
-/// What a report says as a whole; it takes no memory.
+/// What a report says as a whole.
 pub(crate) fn system_verdict(own: OwnState, state: SuiteState) -> ReportVerdict
     ensures { result ≡ system_verdict own state }
 {

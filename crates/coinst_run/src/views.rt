@@ -15,7 +15,9 @@ use suite_compare::{LimitError, SuiteView};
 
 // The stop of a suite that passed the clause limit.
 fn limit_stop(alloc: Global, path: &str, limit: u32, error: LimitError) -> Result<Stop, AllocError>
-    ensures { IfOk result (λ stop. (index : Index) (hold : Bool) → RefusesSuite index.home index.packages limit hold error → StopsAt (kernel_of path.now limit hold index) (stop_ending stop)) }
+    ensures { IfOk result (λ stop. (index : Index) (hold : Bool) →
+        RefusesSuite index.home index.packages limit hold error →
+        StopsAt (kernel_of path.now limit hold index) (stop_ending stop)) }
 {
     match error {
         LimitError::Limit {
@@ -41,7 +43,8 @@ fn limit_stop(alloc: Global, path: &str, limit: u32, error: LimitError) -> Resul
     }
 }
 
-/// The view of a suite at a clause limit, with hold or without, or the package that passed the limit.
+/// The view of a suite at a clause limit, with hold or without, or the package that passed the
+/// limit.
 pub fn view_of(
     alloc: Global,
     suite: Suite,
@@ -50,11 +53,13 @@ pub fn view_of(
     hold: bool,
 ) -> Result<SuiteView, Stop>
     requires { 0 < limit }
-    ensures kernel { OnOk result (kernel_of path.now limit hold (index_of suite) ≡ Ok (index_kernel limit hold suite.home suite.packages)) }
+    ensures kernel { OnOk result (kernel_of path.now limit hold (index_of suite)
+        ≡ Ok (index_kernel limit hold suite.home suite.packages)) }
     ensures suite { IfOk result (λ view. index_of view.suite ≡ index_of suite) }
     ensures limit { IfOk result (λ view. view.limit ≡ limit) }
     ensures hold { IfOk result (λ view. view.kernel.hold ≡ hold) }
-    ensures stop { IfErr result (λ stop. StopsAt (kernel_of path.now limit hold (index_of suite)) (stop_ending stop)) }
+    ensures stop { IfErr result (λ stop.
+        StopsAt (kernel_of path.now limit hold (index_of suite)) (stop_ending stop)) }
 {
     match SuiteView::of_suite(alloc, suite, limit, hold) {
         Ok(view) => Ok(view),
@@ -62,8 +67,8 @@ pub fn view_of(
     }
 }
 
-/// The view of the index at a path at a clause limit, with hold or without: the file is read whole, and its kernel is extracted, or
-/// it is said why there is none.
+/// The view of the index at a path at a clause limit, with hold or without. The file is read whole
+/// and its kernel is extracted, or it is said why there is none.
 pub fn view_at<F: Shelf>(
     alloc: Global,
     shelf: &mut F,
@@ -72,11 +77,13 @@ pub fn view_at<F: Shelf>(
     hold: bool,
 ) -> Result<SuiteView, Stop>
     requires { 0 < limit }
-    ensures view { IfOk result (λ view. ReachesKernel F.model shelf.old path.now limit hold (index_of view.suite) shelf.new) }
+    ensures view { IfOk result (λ view.
+        ReachesKernel F.model shelf.old path.now limit hold (index_of view.suite) shelf.new) }
     ensures named { IfOk result (λ view. AreNamedPackages view.suite.packages) }
     ensures limit { IfOk result (λ view. view.limit ≡ limit) }
     ensures hold { IfOk result (λ view. view.kernel.hold ≡ hold) }
-    ensures stop { IfErr result (λ stop. (next : Index → ClassedKernel → Course) → Follows F.model (reads_kernel path.now limit hold next) shelf.old (stop_ending stop) shelf.new) }
+    ensures stop { IfErr result (λ stop. (next : Index → ClassedKernel → Course) → Follows F.model
+        (reads_kernel path.now limit hold next) shelf.old (stop_ending stop) shelf.new) }
 {
     let suite = suite_at(alloc, shelf, path)?;
     view_of(alloc, suite, path, limit, hold)

@@ -6,7 +6,7 @@ use Rattle.repo_model.specs.{Goals.{any_version}, declared.goals.Goal.{Goal}}
 use Rattle.suite_compare.specs.Asking.{verdict_in}
 use Rattle.explain_core.specs.{Deletion.{KeptItem, kept_of}, declared.explanation.Mark.{Mark}}
 
--- the goal of a number, where they are counted from 1
+-- the goal of a number, if they are counted from 1
 abbrev pub goal_numbered : List Goal → ℕ → Goal
 goal_numbered goals n = slice_index_or goals (n - 1) (any_version [])
 
@@ -15,13 +15,15 @@ goals_numbered goals numbers = map (goal_numbered goals) numbers
 
 -- the verdict on the goals of these numbers
 abbrev pub verdict_on : ℕ → Bool → Home → List PackageFacts → ℕ → List Goal → List ℕ → Verdict
-verdict_on limit hold home stanzas budget goals numbers = verdict_in limit hold home stanzas budget (goals_numbered goals numbers)
+verdict_on limit hold home stanzas budget goals numbers =
+    verdict_in limit hold home stanzas budget (goals_numbered goals numbers)
 
 -- the core: one goal after another is left out, as long as the verdict on the others is no
 abbrev pub goal_core : ℕ → Bool → Home → List PackageFacts → ℕ → List Goal → List (KeptItem ℕ)
-goal_core limit hold home stanzas budget goals = kept_of (verdict_on limit hold home stanzas budget goals) (range_with_len 1 (length goals))
+goal_core limit hold home stanzas budget goals =
+    kept_of (verdict_on limit hold home stanzas budget goals) (range_with_len 1 (length goals))
 
--- the core as it is told
+-- an item of the core as a mark
 abbrev pub mark : KeptItem ℕ → Mark
 mark k = record { goal = k.item; unsettled = k.unsettled }
 

@@ -1,5 +1,5 @@
--- Lists from which one item after another is left out, as long as what is left still has the verdict no. So a minimal
--- unsatisfiable set of clauses is found by deletion.
+-- Lists from which one item after another is left out, as long as what is left still has the
+-- verdict no. A minimal unsatisfiable set of clauses is found in this way by deletion.
 use Rattle.std.specs.Prelude.{Bool, true, false, List, [], ◌∷◌, ◌++◌, map}
 use Rattle.clause_solver.specs.{declared.outcomes.Verdict.{Verdict}, declared.outcomes.Verdict.TheVariants.{Yes, No, Spent}}
 
@@ -14,8 +14,8 @@ kept x unsettled = record { item = x; unsettled = unsettled }
 abbrev pub items_of : {X : Type 0} → List (KeptItem X) → List X
 items_of stay = map (λ k. k.item) stay
 
--- an item by the verdict on the others: it is left out where that is no, stays where it is yes, and stays and is open where the
--- search is spent
+-- An item by the verdict on the others. It is left out if that is no, and stays if it is yes. It
+-- stays and is open if the search is spent.
 abbrev pub kept_by : {X : Type 0} → X → Verdict → List (KeptItem X)
 kept_by x No = []
 kept_by x Yes = kept x false ∷ []
@@ -27,10 +27,13 @@ is_no No = true
 is_no Yes = false
 is_no Spent = false
 
--- the items are taken in order: the others of an item are those before it that stay and all those behind it
-unfoldable pub kept_behind : {X : Type 0} → (List X → Verdict) → List (KeptItem X) → List X → List (KeptItem X)
+-- the items are taken in order: the others of an item are those before it that stay and all those
+-- after it
+unfoldable pub kept_behind : {X : Type 0} → (List X → Verdict) → List (KeptItem X) →
+    List X → List (KeptItem X)
 kept_behind verdict before [] = before
-kept_behind verdict before (x ∷ after) = kept_behind verdict (before ++ kept_by x (verdict (items_of before ++ after))) after
+kept_behind verdict before (x ∷ after) =
+    kept_behind verdict (before ++ kept_by x (verdict (items_of before ++ after))) after
 
 -- what is left when all items have been taken
 abbrev pub kept_of : {X : Type 0} → (List X → Verdict) → List X → List (KeptItem X)

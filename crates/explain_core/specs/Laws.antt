@@ -5,4 +5,5 @@ use Rattle.explain_core.specs.Reach.{IsReach, reach_of}
 
 -- the test of reach is the least set
 abbrev pub ReachIsLeast : Type 0
-ReachIsLeast = (R : Repository) (goals : List (List ℕ)) → SoundRepository R → NeedsFit (length R.clauses) goals → IsReach R goals (reach_of R goals)
+ReachIsLeast = (R : Repository) (goals : List (List ℕ)) → SoundRepository R →
+    NeedsFit (length R.clauses) goals → IsReach R goals (reach_of R goals)

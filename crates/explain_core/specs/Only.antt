@@ -12,8 +12,10 @@ only R pairs = record { clauses = R.clauses; conflicts = lists_of_pairs pairs (l
 
 -- the conflicts of a package with greater ones of the set
 abbrev pub conflicts_above : Repository → NumSet → ℕ → List Pair
-conflicts_above R S low = map (pair low) (filter (λ high. ltb low high && S high) (conflicts_of R low))
+conflicts_above R S low =
+    map (pair low) (filter (λ high. ltb low high && S high) (conflicts_of R low))
 
 -- the conflicts within the set, ascending by their lesser and then by their greater numbers
 abbrev pub conflicts_within : Repository → NumSet → List Pair
-conflicts_within R S = flat_map (conflicts_above R S) (filter S (range_with_len 0 (length R.clauses)))
+conflicts_within R S =
+    flat_map (conflicts_above R S) (filter S (range_with_len 0 (length R.clauses)))

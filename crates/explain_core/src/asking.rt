@@ -18,7 +18,8 @@ pub(crate) fn wanted_by(
 ) -> Result<Needs, ExplainError>
     ensures wanted { IfOk result (λ wanted. wanted ≡ wanted_by view.now.suite.packages goals.now) }
     ensures known { OnOk result (unknown_goal view.now.suite.packages goals.now ≡ None) }
-    ensures unknown { IfErr result (OnUnknownGoal (λ goal. unknown_goal view.now.suite.packages goals.now ≡ Some goal)) }
+    ensures unknown { IfErr result (OnUnknownGoal (λ goal.
+        unknown_goal view.now.suite.packages goals.now ≡ Some goal)) }
 {
     let mut wanted = Needs::new(alloc);
     for (place, goal) in goals.iter().enumerate() {
@@ -41,7 +42,8 @@ pub(crate) fn classes_of(
     wanted: &Needs,
 ) -> Result<Needs, AllocError>
     requires { wanted.now ≡ wanted_by view.now.suite.packages goals.now }
-    ensures { IfOk result (λ classes. classes ≡ images_of view.now.limit view.now.kernel.hold view.now.suite.home view.now.suite.packages goals.now) }
+    ensures { IfOk result (λ classes. classes ≡ images_of view.now.limit view.now.kernel.hold
+        view.now.suite.home view.now.suite.packages goals.now) }
 {
     let mut classes = Needs::new(alloc);
     for place in 0..wanted.count() {

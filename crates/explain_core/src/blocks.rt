@@ -1,8 +1,8 @@
-//! How many items are left out at once: twice as many behind a block that was left out, half as many behind one that was not, and
-//! one alone where what is left does not clash at once.
+//! How many items are left out at once. The block doubles after a success, halves after a failure,
+//! and is one item as soon as what is left does not clash at once.
 //!
-//! If the others clash at the root without a whole block, each greater set does too, so leaving out one by one would have
-//! dropped every item of it.
+//! If the others clash at the root without a whole block, each greater set does too. So leaving out
+//! one by one would have dropped every item of it.
 ghost use Rattle.std.specs.Prelude.{◌≡◌, ◌<◌, ◌≤◌, ◌*◌};
 ghost use Rattle.explain_core.specs.Deletion.{is_no};
 
@@ -19,7 +19,7 @@ pub(crate) fn is_no(verdict: Verdict) -> bool
     }
 }
 
-/// The items of a block, of which so many are left.
+/// The size of the next block: at most the items that are left.
 pub(crate) fn count_of(block: u64, left: u64) -> u64
     requires block { 0 < block }
     requires left { 0 < left }
@@ -30,7 +30,7 @@ pub(crate) fn count_of(block: u64, left: u64) -> u64
     if block < left { block } else { left }
 }
 
-/// The block behind one that was left out.
+/// The block after one that was left out.
 pub(crate) fn twice(count: u64) -> u64
     requires { 0 < count }
     ensures some { 0 < result }
@@ -48,7 +48,7 @@ pub(crate) fn half(count: u64) -> u64
     count / 2
 }
 
-/// The block behind one item alone.
+/// The block after a single item.
 pub(crate) fn block_behind(at_once: bool, verdict: Verdict) -> u64
     ensures some { 0 < result }
     ensures few { result ≤ 2 }

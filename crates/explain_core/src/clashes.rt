@@ -1,4 +1,5 @@
-//! The conflicts that matter: one conflict after another is left out, as long as the search with the others finds nothing.
+//! The conflicts that matter: one conflict after another is left out, as long as the search with
+//! the others finds nothing.
 ghost use Rattle.std.specs.{Prelude.{◌≡◌, ◌++◌, IfOk, OnOk, length}, Option.{option_map}};
 ghost use Rattle.clause_solver.specs.Outcomes.{IsBudget};
 ghost use Rattle.row_book.specs.{Book.{repository_of, PairsFit}, Lent.{repository_in}, Needs.{NeedsFit}, declared.pair.Pair.{Pair}};
@@ -25,8 +26,8 @@ fn is_spent_verdict(verdict: Verdict) -> bool
     }
 }
 
-/// The verdict on the goals if these pairs alone conflict. The solver has the formula of the clauses, made once; the pairs are
-/// those of a book of their own.
+/// The verdict on the goals if only these pairs conflict. The solver has the formula of the
+/// clauses, made once; the pairs are those of a book of their own.
 fn verdict_over(
     alloc: Global,
     asked: &SolvedBook,
@@ -37,7 +38,8 @@ fn verdict_over(
     requires goals { NeedsFit (length asked.now.book.book.now.rows) goals.now }
     requires pairs { PairsFit pairs.now (length asked.now.book.book.now.rows) }
     requires budget { IsBudget budget }
-    ensures { IfOk result (λ verdict. verdict ≡ verdict_over (repository_in asked.now.book) budget goals.now pairs.now) }
+    ensures { IfOk result (λ verdict. verdict
+        ≡ verdict_over (repository_in asked.now.book) budget goals.now pairs.now) }
 {
     let pool = asked.book.pool;
     let chosen = Book::build(alloc, pool, asked.book.book.rows.as_slice(), pairs)?;
@@ -49,7 +51,7 @@ fn verdict_over(
     Ok(verdict)
 }
 
-/// Whether the goals clash at once where these pairs alone conflict: the whole tree is one failed leaf.
+/// Whether the goals clash at once if only these pairs conflict: the whole tree is one failed leaf.
 fn clash_at_once(
     alloc: Global,
     asked: &SolvedBook,
@@ -58,13 +60,14 @@ fn clash_at_once(
 ) -> Result<bool, AllocError>
     requires goals { NeedsFit (length asked.now.book.book.now.rows) goals.now }
     requires pairs { PairsFit pairs.now (length asked.now.book.book.now.rows) }
-    ensures { IfOk result (λ clash. clash ≡ is_no (verdict_over (repository_in asked.now.book) 1 goals.now pairs.now)) }
+    ensures { IfOk result (λ clash. clash
+        ≡ is_no (verdict_over (repository_in asked.now.book) 1 goals.now pairs.now)) }
 {
     let verdict = verdict_over(alloc, asked, goals, pairs, 1)?;
     Ok(is_no(verdict))
 }
 
-/// The others of a conflict: those before it that were kept, and all behind it.
+/// The others of a conflict: those before it that were kept, and all after it.
 fn others(alloc: Global, clashes: &[Clash], behind: &[Pair]) -> Result<Vec<Pair>, AllocError>
     ensures { IfOk result (λ made. made.items ≡ clash_pairs clashes.now ++ behind.now) }
 {
@@ -79,7 +82,7 @@ fn others(alloc: Global, clashes: &[Clash], behind: &[Pair]) -> Result<Vec<Pair>
     Ok(made)
 }
 
-/// Tells of a conflict, unless the verdict on the others is no.
+/// Appends a conflict, unless the verdict on the others is no.
 fn tell_by(clashes: &mut ClashList, pair: Pair, verdict: Verdict) -> Result<(), AllocError>
     ensures { OnOk result (clashes.new ≡ clashes.old ++ clashes_of (kept_by pair verdict)) }
 {
@@ -109,7 +112,8 @@ fn reasons_among(
     requires goals { NeedsFit (length asked.now.book.book.now.rows) goals.now }
     requires pairs { PairsFit pairs.now (length asked.now.book.book.now.rows) }
     requires budget { IsBudget budget }
-    ensures { IfOk result (λ clashes. clashes ≡ clashes_of (kept_of (verdict_over (repository_in asked.now.book) budget goals.now) pairs.now)) }
+    ensures { IfOk result (λ clashes. clashes ≡ clashes_of
+        (kept_of (verdict_over (repository_in asked.now.book) budget goals.now) pairs.now)) }
 {
     let mut clashes = ClashList::new(alloc);
     let mut at_once = clash_at_once(alloc, asked, goals, pairs)?;
@@ -120,7 +124,8 @@ fn reasons_among(
         let made = others(alloc, clashes.as_slice(), &pairs[place + count..])?;
         let rest = made.as_slice();
         if count > 1 {
-            // Where the goals clash at once by the others of the whole block, so they do by more, and no pair of the block matters.
+            // If the goals clash at once by the others of the whole block, they do by more, and no
+            // pair of the block matters.
             if clash_at_once(alloc, asked, goals, rest)? {
                 place += count;
                 block = twice(count as u64);
@@ -140,7 +145,8 @@ fn reasons_among(
     Ok(clashes)
 }
 
-/// The conflicts that matter for goals, each a set of packages; none where the search with all that are within reach is spent.
+/// The conflicts that matter for goals, each a set of packages. None if the search with all that
+/// are within reach is spent.
 pub(crate) fn clashes_for(
     alloc: Global,
     view: &SuiteView,
@@ -149,7 +155,8 @@ pub(crate) fn clashes_for(
 ) -> Result<Option<ClashList>, AllocError>
     requires goals { NeedsFit (length view.now.book.rows) goals.now }
     requires budget { IsBudget budget }
-    ensures { IfOk result (λ clashes. clashes ≡ option_map clashes_of (reasons_of (repository_of view.now.pool view.now.book) budget goals.now)) }
+    ensures { IfOk result (λ clashes. clashes ≡ option_map clashes_of
+        (reasons_of (repository_of view.now.pool view.now.book) budget goals.now)) }
 {
     let pool = &view.pool;
     let book = &view.book;

@@ -14,14 +14,15 @@ fn is_up(flags: &[bool], number: u32) -> bool
     flags.get(number as usize).copied().unwrap_or(false)
 }
 
-/// Puts the conflicts of a package with greater ones of the set behind the others.
+/// Appends the conflicts of a package with greater ones of the set.
 fn add_above(
     flags: &[bool],
     low: u32,
     against: &[u32],
     pairs: &mut Vec<Pair>,
 ) -> Result<(), AllocError>
-    ensures { OnOk result (pairs.new.items ≡ pairs.old.items ++ map (pair low) (filter (λ high. ltb low high && flag flags.now high) against.now)) }
+    ensures { OnOk result (pairs.new.items ≡ pairs.old.items
+        ++ map (pair low) (filter (λ high. ltb low high && flag flags.now high) against.now)) }
 {
     for high in against {
         if low < *high && is_up(flags, *high) {
@@ -38,7 +39,8 @@ pub(crate) fn conflicts_within(
     book: &Book,
     flags: &[bool],
 ) -> Result<Vec<Pair>, AllocError>
-    ensures { IfOk result (λ pairs. pairs.items ≡ conflicts_within (repository_of pool.now book.now) (flag flags.now)) }
+    ensures { IfOk result (λ pairs. pairs.items
+        ≡ conflicts_within (repository_of pool.now book.now) (flag flags.now)) }
 {
     let mut pairs = Vec::new(alloc);
     for low in 0..book.size() {

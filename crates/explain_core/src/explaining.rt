@@ -14,8 +14,9 @@ use row_book::LentBook;
 use std::alloc::Global;
 use suite_compare::SuiteView;
 
-/// Why one package for each goal cannot be installed together, where it cannot, with a budget of failed leaves for each search,
-/// from 1 to 1,000,000: the goals that matter for it, and the conflicts within their reach that do.
+/// Why one package for each goal cannot be installed together, if that is so. Each search has a
+/// budget of failed leaves, from 1 to 1,000,000. The answer has the goals that matter, and of the
+/// conflicts within their reach those that matter.
 pub fn explain(
     alloc: Global,
     view: &SuiteView,
@@ -23,10 +24,13 @@ pub fn explain(
     budget: u64,
 ) -> Result<Explanation, ExplainError>
     requires { IsBudget budget }
-    ensures explanation { IfOk result (λ explanation. explanation ≡ explanation_of view.now.limit view.now.kernel.hold view.now.suite.home view.now.suite.packages budget goals.now) }
-    ensures meaning { IfOk result (MeansExplanation view.now.suite.home view.now.suite.packages goals.now) }
+    ensures explanation { IfOk result (λ explanation. explanation ≡ explanation_of view.now.limit
+        view.now.kernel.hold view.now.suite.home view.now.suite.packages budget goals.now) }
+    ensures meaning { IfOk result
+        (MeansExplanation view.now.suite.home view.now.suite.packages goals.now) }
     ensures known { OnOk result (unknown_goal view.now.suite.packages goals.now ≡ None) }
-    ensures unknown { IfErr result (OnUnknownGoal (λ goal. unknown_goal view.now.suite.packages goals.now ≡ Some goal)) }
+    ensures unknown { IfErr result (OnUnknownGoal (λ goal.
+        unknown_goal view.now.suite.packages goals.now ≡ Some goal)) }
 {
     let wanted = wanted_by(alloc, view, goals)?;
     let classes = classes_of(alloc, view, goals, &wanted)?;

@@ -21,14 +21,15 @@ pub struct Clash {
     pub first: u32,
     /// The greater number of the two packages.
     pub second: u32,
-    /// Whether the search without this conflict was spent, so that it is open if the conflict matters.
+    /// Whether the search without this conflict was spent, so that it is open if the conflict
+    /// matters.
     pub unsettled: bool,
 }
 
 /// Conflicts that matter, ascending.
 pub type ClashList = Listed<Clash>;
 
-/// Why one package for each goal cannot be installed together, where it cannot.
+/// Why one package for each goal cannot be installed together, if that is so.
 #[derive(Drop)]
 pub enum Explanation {
     /// It can.
@@ -40,9 +41,11 @@ pub enum Explanation {
     },
     /// It cannot.
     Core {
-        /// The goals that matter: these alone cannot be met together either, and without one of them that is settled the others can.
+        /// The goals that matter: these alone cannot be met together either, and without one of
+        /// them that is settled the others can.
         goals: MarkList,
-        /// The conflicts that matter for these goals; none where the search with all conflicts within reach was spent.
+        /// The conflicts that matter for these goals. None if the search with all conflicts within
+        /// reach was spent.
         clashes: Option<ClashList>,
     },
 }

@@ -1,4 +1,5 @@
-//! The core of the goals: one goal after another is left out, as long as the others cannot be installed together.
+//! The core of the goals: one goal after another is left out, as long as the others cannot be
+//! installed together.
 ghost use Rattle.std.specs.Prelude.{◌≡◌, ◌-◌, ◌≤◌, ◌<◌, ◌++◌, IfOk, OnOk, drop, length};
 ghost use Rattle.clause_solver.specs.Outcomes.{IsBudget};
 ghost use Rattle.row_book.specs.{Book.{repository_of}, Needs.{NeedsFit}};
@@ -13,7 +14,7 @@ use row_book::Needs;
 use std::alloc::{AllocError, Global};
 use suite_compare::SuiteView;
 
-/// Puts the goals that are marked behind the others.
+/// Appends the goals that are marked.
 fn add_marked(needs: &Needs, marks: &[Mark], out: &mut Needs) -> Result<(), AllocError>
     requires { ArePlacesFrom1 (length needs.now) marks.now }
     ensures { OnOk result (out.new ≡ out.old ++ picked needs.now marks.now) }
@@ -24,7 +25,7 @@ fn add_marked(needs: &Needs, marks: &[Mark], out: &mut Needs) -> Result<(), Allo
     Ok(())
 }
 
-/// Puts the goals from a place on behind the others.
+/// Appends the goals from an index on.
 fn add_behind(needs: &Needs, from: u64, out: &mut Needs) -> Result<(), AllocError>
     requires { from ≤ length needs.now }
     ensures { OnOk result (out.new ≡ out.old ++ drop from needs.now) }
@@ -83,7 +84,8 @@ fn clash_at_once(
 ) -> Result<bool, AllocError>
     requires solver { solver.now ≡ repository_of view.now.pool view.now.kernel.book }
     requires fit { NeedsFit (length view.now.kernel.book.rows) classes.now }
-    ensures { IfOk result (λ clash. clash ≡ is_no (verdict_of 1 (tree_of (repository_of view.now.pool view.now.kernel.book) classes.now))) }
+    ensures { IfOk result (λ clash. clash ≡ is_no
+        (verdict_of 1 (tree_of (repository_of view.now.pool view.now.kernel.book) classes.now))) }
 {
     let verdict = solver.verdict(alloc, classes, 1)?;
     Ok(is_no(verdict))
@@ -99,9 +101,11 @@ pub(crate) fn core_of(
     budget: u64,
 ) -> Result<MarkList, AllocError>
     requires solver { solver.now ≡ repository_of view.now.pool view.now.kernel.book }
-    requires classes { classes.now ≡ images_of view.now.limit view.now.kernel.hold view.now.suite.home view.now.suite.packages goals.now }
+    requires classes { classes.now ≡ images_of view.now.limit view.now.kernel.hold
+        view.now.suite.home view.now.suite.packages goals.now }
     requires budget { IsBudget budget }
-    ensures { IfOk result (λ marks. marks ≡ marks_of (goal_core view.now.limit view.now.kernel.hold view.now.suite.home view.now.suite.packages budget goals.now)) }
+    ensures { IfOk result (λ marks. marks ≡ marks_of (goal_core view.now.limit view.now.kernel.hold
+        view.now.suite.home view.now.suite.packages budget goals.now)) }
 {
     let mut marks = MarkList::new(alloc);
     let all = classes.count();
@@ -112,7 +116,8 @@ pub(crate) fn core_of(
         let count = count_of(block, all - place);
         let rest = others(alloc, classes, marks.as_slice(), place + count)?;
         if count > 1 {
-            // Where the others of the whole block clash at once, so do more goals, and no goal of the block matters.
+            // If the others of the whole block clash at once, more goals do too, and no goal of the
+            // block matters.
             if clash_at_once(alloc, view, solver, &rest)? {
                 place += count;
                 block = twice(count);

@@ -1,13 +1,13 @@
-//! The laws of explanations: the functions do nothing, the contract of each is one law.
+//! The laws of explanations: the functions do nothing, and the contract of each is one law.
 ghost use Rattle.explain_core.specs.{Laws.{ReachIsLeast}, OnStanzas.{ExplanationsAreTellable, ExplanationsHold}};
 
-/// The test by which the packages within reach are told is the least set that has the packages of the goals and, with a package, the
-/// members of its clauses.
+/// The test of the packages within reach is the least set that has the packages of the goals and,
+/// with a package, the members of its clauses.
 pub fn reach_is_least()
     ensures { ReachIsLeast }
 {}
 
-/// What an explanation tells of goals and of conflicts holds on the stanzas alone.
+/// What an explanation says of goals and of conflicts holds on the stanzas alone.
 pub fn explanations_hold()
     ensures { ExplanationsHold }
 {}

@@ -29,7 +29,7 @@ impl Model for Met {
 }
 
 impl Met {
-    /// No package, of so many.
+    /// No package, of `size`.
     pub(crate) fn new(alloc: Global, size: u32) -> Result<Met, AllocError>
         ensures { IfOk result (λ met. met ≡ (size, [])) }
     {
@@ -86,7 +86,8 @@ impl Met {
         requires row { OfPool pool.now row.now }
         requires fit { NeedsFit self.old.0 (clauses_at pool.now row.now) }
         ensures size { OnOk result (self.new.0 ≡ self.old.0) }
-        ensures put { OnOk result (Meets self.old.1 self.new.1 (concat (clauses_at pool.now row.now))) }
+        ensures put { OnOk result
+            (Meets self.old.1 self.new.1 (concat (clauses_at pool.now row.now))) }
     {
         for id in row {
             self.meet_all(pool.slice(*id))?;

@@ -15,7 +15,8 @@ fn meet_needs(pool: &Pool, book: &Book, package: u32, met: &mut Met) -> Result<(
     requires number { «package» < length book.now.rows }
     requires size { met.old.0 ≡ length book.now.rows }
     ensures size { OnOk result (met.new.0 ≡ met.old.0) }
-    ensures put { OnOk result (Meets met.old.1 met.new.1 (concat (row_at pool.now (slice_index_or book.now.rows «package» 0)))) }
+    ensures put { OnOk result (Meets met.old.1 met.new.1
+        (concat (row_at pool.now (slice_index_or book.now.rows «package» 0)))) }
 {
     met.meet_row(pool, pool.row(book.row(package)))
 }
@@ -29,7 +30,8 @@ pub(crate) fn reach_of(
 ) -> Result<Vec<bool>, AllocError>
     requires sound { Sound pool.now book.now }
     requires goals { NeedsFit (length book.now.rows) goals.now }
-    ensures { IfOk result (λ flags. IsReach (repository_of pool.now book.now) goals.now (flag flags.items)) }
+    ensures { IfOk result (λ flags.
+        IsReach (repository_of pool.now book.now) goals.now (flag flags.items)) }
 {
     let mut met = Met::new(alloc, book.size())?;
     met.meet_goals(goals)?;

@@ -1,4 +1,5 @@
--- The extraction of a kernel: midway, after some rounds each of which changed something, and at its end.
+-- The extraction of a kernel: midway, after some rounds that each changed something, and at its
+-- end.
 use Rattle.std.specs.Prelude.{◌≡◌, ◌≢◌, ℕ, suc, ◌<◌, Bool, min, eqb, List, [], map, None, ⊤}
 use Rattle.clause_pool.specs.Interned.{Interned, Kept}
 use Rattle.clause_flatten.specs.declared.error.FlatError.{FlatError}
@@ -10,8 +11,9 @@ use Rattle.row_book.specs.Trail.{SoundSteps, trail_meaning}
 use Rattle.kernel_rounds.specs.{declared.advancing.Progress.{Progress}, declared.rounding.Reduced.{Reduced}, declared.error.RoundError.{RoundError}}
 use Rattle.kernel_rounds.specs.{declared.error.RoundError.TheVariants.{Limit, Memory}, Moving.{HasSteps}}
 
--- what a round makes of a book of the repository, where no row passes the limit
-pub record IsReduced (limit : ℕ) (hold : Bool) (R : Repository) (pool : Interned) (made : Reduced) : Type 0 where
+-- what a round makes of a book of the repository, if no row passes the limit
+pub record IsReduced (limit : ℕ) (hold : Bool) (R : Repository) (pool : Interned)
+    (made : Reduced) : Type 0 where
   pub is : repository_of pool made.book ≡ round limit hold R
   pub class_of : made.class_of ≡ class_list (flat limit hold R)
   pub held : made.held ≡ held_of limit hold R
@@ -19,9 +21,10 @@ pub record IsReduced (limit : ℕ) (hold : Bool) (R : Repository) (pool : Intern
   pub sound : Sound pool made.book
   pub within : passes limit hold R ≡ None
 
--- after some rounds, each of which changed something and passed no limit: the book is of the pool that the rounds work in, and
--- the steps are of another, in which the first book has the same ids
-pub record IsMidway (R : Repository) (limit : ℕ) (hold : Bool) (start pool work : Interned) (now : Progress) : Type 0 where
+-- After some rounds that each changed something and passed no limit. The book is of the pool that
+-- the rounds work in. The steps are of another pool, in which the first book has the same ids.
+pub record IsMidway (R : Repository) (limit : ℕ) (hold : Bool) (start pool work : Interned)
+    (now : Progress) : Type 0 where
   pub index : ℕ
   pub is : repository_of work now.book ≡ rounds limit hold R index
   pub sound : Sound work now.book
@@ -30,10 +33,12 @@ pub record IsMidway (R : Repository) (limit : ℕ) (hold : Bool) (start pool wor
   pub steps : HasSteps start pool now.steps (steps_after limit hold R index)
   pub counted : now.number ≡ min (suc index) 4294967295
   pub passed : (j : ℕ) → j < index → passes limit hold (rounds limit hold R j) ≡ None
-  pub changed : (j : ℕ) → j < index → round limit hold (rounds limit hold R j) ≡ rounds limit hold R j → ⊥
+  pub changed : (j : ℕ) → j < index →
+      round limit hold (rounds limit hold R j) ≡ rounds limit hold R j → ⊥
 
 -- the kernel with its classes, its held classes and its trail, whose books are sound
-pub record IsExtracted (R : Repository) (limit : ℕ) (hold : Bool) (start pool : Interned) (book : Book) (classes held_classes : List ℕ) (trail : List Step) : Type 0 where
+pub record IsExtracted (R : Repository) (limit : ℕ) (hold : Bool) (start pool : Interned)
+    (book : Book) (classes held_classes : List ℕ) (trail : List Step) : Type 0 where
   pub is : repository_of pool book ≡ kernel limit hold R
   pub class_of : classes ≡ map (kernel_class limit hold R) (packages R)
   pub held : held_classes ≡ kernel_held limit hold R
@@ -43,29 +48,34 @@ pub record IsExtracted (R : Repository) (limit : ℕ) (hold : Bool) (start pool 
   pub within : limit_at limit hold R ≡ None
   pub kept : Kept start pool
 
--- extraction over again, at the same limit and hold, gives the same repository with the same held packages, each package as its
--- own class and no step
-pub record IsOwnKernel (K : Repository) (held_classes : List ℕ) (limit : ℕ) (hold : Bool) : Type 0 where
+-- Extraction from the kernel, at the same limit and hold, gives the same repository with the same
+-- held packages. Each package is its own class, and there is no step.
+pub record IsOwnKernel (K : Repository) (held_classes : List ℕ) (limit : ℕ)
+    (hold : Bool) : Type 0 where
   pub same : kernel limit hold K ≡ K
   pub held : kernel_held limit hold K ≡ held_classes
   pub classes : (p : ℕ) → kernel_class limit hold K p ≡ p
   pub steps : kernel_steps limit hold K ≡ []
   pub within : limit_at limit hold K ≡ None
 
--- the fact of the limit that is passed, where there is one, and nothing for want of memory
+-- the fact of the limit, if that was passed; nothing for want of memory
 abbrev pub OnRoundLimit : (PassedRound → Type 0) → RoundError → Type 0
-OnRoundLimit P (Limit round gone over count) = P (record { number = round; gone = gone; over = over; count = count })
+OnRoundLimit P (Limit round gone over count) =
+    P (record { number = round; gone = gone; over = over; count = count })
 OnRoundLimit P Memory = ⊤
 
--- the pool has gained the steps of the rounds before the first one that passes the clause limit, and no others
-pub record HasStepsBefore (R : Repository) (limit : ℕ) (hold : Bool) (start pool : Interned) : Type 0 where
+-- the pool has gained the steps of the rounds before the first one that passes the clause limit,
+-- and no others
+pub record HasStepsBefore (R : Repository) (limit : ℕ) (hold : Bool)
+    (start pool : Interned) : Type 0 where
   pub index : ℕ
   pub within : (j : ℕ) → j < index → passes limit hold (rounds limit hold R j) ≡ None
   pub over : passes limit hold (rounds limit hold R index) ≢ None
   pub steps : List Step
   pub gained : HasSteps start pool steps (steps_after limit hold R index)
 
--- why no kernel is extracted where a round is refused
+-- why no kernel is extracted if a round is refused
 abbrev pub refusal : ℕ → List ℕ → FlatError → RoundError
-refusal number class_of (faults.Limit gone over count) = Limit number gone (place_of (λ k. eqb k over) class_of) count
+refusal number class_of (faults.Limit gone over count) =
+    Limit number gone (place_of (λ k. eqb k over) class_of) count
 refusal number class_of faults.Memory = Memory

@@ -9,23 +9,31 @@ use Rattle.clause_pool.specs.Lists.{Before, InOrder}
 use Rattle.class_merge.specs.Laws.{plain_clauses}
 use Rattle.kernel_rounds.specs.Tails.{Tail, conflict_count, round_with, rounds_with, image_with}
 
--- where each package that stands in a clause is of the core, flattening only drops clauses
+-- if each package that is in a clause is of the core, flattening only drops clauses
 abbrev pub FlatPlain : Type 0
-FlatPlain = (limit : ℕ) (hold : Bool) → (R : Repository) → SoundRepository R → ((p : ℕ) (c : List ℕ) (n : ℕ) → In c (clauses_of R p) → In n c → core_of limit hold R n ≡ true) →
+FlatPlain = (limit : ℕ) (hold : Bool) → (R : Repository) → SoundRepository R →
+    ((p : ℕ) (c : List ℕ) (n : ℕ) → In c (clauses_of R p) → In n c →
+    core_of limit hold R n ≡ true) →
     (p : ℕ) → p < length R.clauses → row R (core_of limit hold R) p ≡ plain_clauses R p
 
--- so many rounds, whatever comes after merging, keep every set, and the repository sound
-pub record RoundsKept (limit : ℕ) (hold : Bool) (t : Repository → Repository) (R : Repository) (n : ℕ) : Type 0 where
-  pub keeps : (S : NumSet) → OfPackages R S → (Coinst R S ↔ Coinst (rounds_with limit hold t R n) (image_with limit hold t R n S))
+-- after n rounds, whatever comes after merging: a set of packages is co-installable exactly if its
+-- image is, and the repository is sound
+pub record RoundsKept (limit : ℕ) (hold : Bool) (t : Repository → Repository) (R : Repository)
+    (n : ℕ) : Type 0 where
+  pub keeps : (S : NumSet) → OfPackages R S →
+      (Coinst R S ↔ Coinst (rounds_with limit hold t R n) (image_with limit hold t R n S))
   pub sound : SoundRepository (rounds_with limit hold t R n)
 
 abbrev pub TailsKeep : Type 0
-TailsKeep = (limit : ℕ) (hold : Bool) → (t : Repository → Repository) → Tail t → (R : Repository) → SoundRepository R → (n : ℕ) → RoundsKept limit hold t R n
+TailsKeep = (limit : ℕ) (hold : Bool) → (t : Repository → Repository) → Tail t →
+    (R : Repository) → SoundRepository R → (n : ℕ) → RoundsKept limit hold t R n
 
--- they end: as many as the size of the repository tells are enough
+-- they end: the number of packages gives a number of rounds that is enough
 abbrev pub TailsEnd : Type 0
-TailsEnd = (limit : ℕ) (hold : Bool) → (t : Repository → Repository) → Tail t → (R : Repository) → SoundRepository R →
-    round_with limit hold t (rounds_with limit hold t R (enough_rounds (length R.clauses))) ≡ rounds_with limit hold t R (enough_rounds (length R.clauses))
+TailsEnd = (limit : ℕ) (hold : Bool) → (t : Repository → Repository) → Tail t →
+    (R : Repository) → SoundRepository R →
+    round_with limit hold t (rounds_with limit hold t R (enough_rounds (length R.clauses)))
+    ≡ rounds_with limit hold t R (enough_rounds (length R.clauses))
 
 -- the three rounds: merging alone, with pruning, and with pruning and thinning
 pub record ThreeTails : Type 0 where
@@ -41,26 +49,31 @@ pub record LeftByEach (limit : ℕ) (hold : Bool) (K : Repository) : Type 0 wher
   pub thinning : thin K ≡ K
 
 abbrev pub FixedParts : Type 0
-FixedParts = (limit : ℕ) (hold : Bool) → (K : Repository) → SoundRepository K → round limit hold K ≡ K → LeftByEach limit hold K
+FixedParts = (limit : ℕ) (hold : Bool) → (K : Repository) → SoundRepository K →
+    round limit hold K ≡ K → LeftByEach limit hold K
 
--- and settled
+-- a repository that a round leaves is settled
 abbrev pub FixedIsSettled : Type 0
-FixedIsSettled = (limit : ℕ) (hold : Bool) → (K : Repository) → SoundRepository K → round limit hold K ≡ K → Settled limit hold K
+FixedIsSettled = (limit : ℕ) (hold : Bool) → (K : Repository) → SoundRepository K →
+    round limit hold K ≡ K → Settled limit hold K
 
 -- the kernel is what a round leaves, after as few rounds as can be
 pub record IsKernel (limit : ℕ) (hold : Bool) (R : Repository) : Type 0 where
   pub fixed : round limit hold (kernel limit hold R) ≡ kernel limit hold R
-  pub first : (n : ℕ) → round limit hold (rounds limit hold R n) ≡ rounds limit hold R n → round_count limit hold R ≤ n
-  pub only : (n : ℕ) → round limit hold (rounds limit hold R n) ≡ rounds limit hold R n → rounds limit hold R n ≡ kernel limit hold R
+  pub first : (n : ℕ) → round limit hold (rounds limit hold R n) ≡ rounds limit hold R n →
+      round_count limit hold R ≤ n
+  pub only : (n : ℕ) → round limit hold (rounds limit hold R n) ≡ rounds limit hold R n →
+      rounds limit hold R n ≡ kernel limit hold R
   pub sound : SoundRepository (kernel limit hold R)
   pub settled : Settled limit hold (kernel limit hold R)
 
 abbrev pub KernelIs : Type 0
 KernelIs = (limit : ℕ) (hold : Bool) → (R : Repository) → SoundRepository R → IsKernel limit hold R
 
--- a set of packages is co-installable exactly where its image is in the kernel
+-- a set of packages is co-installable exactly if its image is in the kernel
 abbrev pub KernelKeeps : Type 0
-KernelKeeps = (limit : ℕ) (hold : Bool) → (R : Repository) → SoundRepository R → (S : NumSet) → OfPackages R S → (Coinst R S ↔ Coinst (kernel limit hold R) (kernel_image limit hold R S))
+KernelKeeps = (limit : ℕ) (hold : Bool) → (R : Repository) → SoundRepository R → (S : NumSet) →
+    OfPackages R S → (Coinst R S ↔ Coinst (kernel limit hold R) (kernel_image limit hold R S))
 
 -- the image of a set has the classes of its packages, and no others
 pub record HasImage (limit : ℕ) (hold : Bool) (R : Repository) (S : NumSet) (k : ℕ) : Type 0 where
@@ -70,20 +83,24 @@ pub record HasImage (limit : ℕ) (hold : Bool) (R : Repository) (S : NumSet) (k
   pub class : kernel_class limit hold R by ≡ k
 
 abbrev pub ImageIsOfClasses : Type 0
-ImageIsOfClasses = (limit : ℕ) (hold : Bool) → (R : Repository) → SoundRepository R → (S : NumSet) → OfPackages R S → (k : ℕ) → (Is (kernel_image limit hold R S) k ↔ HasImage limit hold R S k)
+ImageIsOfClasses = (limit : ℕ) (hold : Bool) → (R : Repository) → SoundRepository R → (S : NumSet) →
+    OfPackages R S → (k : ℕ) → (Is (kernel_image limit hold R S) k ↔ HasImage limit hold R S k)
 
--- the kernel is that of what a round leaves, where each package has the class of its class, and no round passes the limit where the
--- first does not and none behind it
+-- The kernel is that of what a round leaves, and each package has in it the class of its class. No
+-- round passes the limit exactly if the first does not and none after it.
 pub record IsBehindRound (limit : ℕ) (hold : Bool) (R : Repository) : Type 0 where
   pub same : kernel limit hold (round limit hold R) ≡ kernel limit hold R
-  pub classes : (p : ℕ) → p < length R.clauses → kernel_class limit hold (round limit hold R) (class_of (flat limit hold R) p) ≡ kernel_class limit hold R p
-  pub within : (limit_at limit hold R ≡ None) ↔ ((passes limit hold R ≡ None) × (limit_at limit hold (round limit hold R) ≡ None))
+  pub classes : (p : ℕ) → p < length R.clauses → kernel_class limit hold (round limit hold R)
+      (class_of (flat limit hold R) p) ≡ kernel_class limit hold R p
+  pub within : (limit_at limit hold R ≡ None)
+      ↔ ((passes limit hold R ≡ None) × (limit_at limit hold (round limit hold R) ≡ None))
 
 abbrev pub KernelBehindRound : Type 0
-KernelBehindRound = (limit : ℕ) (hold : Bool) → (R : Repository) → SoundRepository R → IsBehindRound limit hold R
+KernelBehindRound = (limit : ℕ) (hold : Bool) → (R : Repository) → SoundRepository R →
+    IsBehindRound limit hold R
 
--- the kernel of a kernel, at the same limit and hold, is itself with the same held packages, with each package as its own class
--- and without a step, and it passes no limit where the first passed none
+-- The kernel of a kernel, at the same limit and hold, is itself with the same held packages. Each
+-- package is its own class, and there is no step. It passes no limit if the first passed none.
 pub record OwnKernel (limit : ℕ) (hold : Bool) (R : Repository) : Type 0 where
   pub same : kernel limit hold (kernel limit hold R) ≡ kernel limit hold R
   pub held : kernel_held limit hold (kernel limit hold R) ≡ kernel_held limit hold R
@@ -92,18 +109,19 @@ pub record OwnKernel (limit : ℕ) (hold : Bool) (R : Repository) : Type 0 where
   pub within : limit_at limit hold R ≡ None → limit_at limit hold (kernel limit hold R) ≡ None
 
 abbrev pub KernelOfKernel : Type 0
-KernelOfKernel = (limit : ℕ) (hold : Bool) → (R : Repository) → SoundRepository R → OwnKernel limit hold R
+KernelOfKernel = (limit : ℕ) (hold : Bool) → (R : Repository) → SoundRepository R →
+    OwnKernel limit hold R
 
 -- the sum, over all clauses, of the clause's length plus one
 abbrev pub total_weight : List (List (List ℕ)) → ℕ
 total_weight [] = 0
 total_weight (row ∷ rows) = weigh row + total_weight rows
 
--- whether the package stands in a clause
+-- whether the package is in a clause
 abbrev pub stands : Repository → ℕ → Bool
 stands R q = list_any (λ p. list_any (λ c. has c q) (clauses_of R p)) (packages R)
 
--- how many packages without conflicts stand in clauses
+-- how many packages without conflicts are in clauses
 unfoldable pub standing_count : Repository → ℕ
 standing_count R = length (filter (λ q. stands R q && not (has_conflict R q)) (packages R))
 
@@ -111,19 +129,22 @@ standing_count R = length (filter (λ q. stands R q && not (has_conflict R q)) (
 abbrev pub RowsInOrder : Repository → Type 0
 RowsInOrder R = (p : ℕ) → InOrder (clauses_of R p)
 
--- what goes down: the number of packages, of conflicts, of packages without conflicts that stand in clauses, and the weight of
--- all clauses
+-- what goes down: the number of packages, of conflicts, of packages without conflicts that are in
+-- clauses, and the weight of all clauses
 abbrev pub measures : Repository → List ℕ
-measures R = length R.clauses ∷ (conflict_count R ∷ (standing_count R ∷ (total_weight R.clauses ∷ [])))
+measures R =
+    length R.clauses ∷ (conflict_count R ∷ (standing_count R ∷ (total_weight R.clauses ∷ [])))
 
--- a round leaves clauses in order; and where they were in order before it, it changes nothing, or lowers these numbers in
--- lexicographic order
+-- A round leaves clauses in order. If they were in order before it, it changes nothing, or lowers
+-- these numbers in lexicographic order.
 pub record GoesDown (limit : ℕ) (hold : Bool) (R : Repository) : Type 0 where
   pub sorted : RowsInOrder (round limit hold R)
-  pub lower : RowsInOrder R → (round limit hold R ≡ R → ⊥) → Before (measures (round limit hold R)) (measures R)
+  pub lower : RowsInOrder R → (round limit hold R ≡ R → ⊥) →
+      Before (measures (round limit hold R)) (measures R)
 
 abbrev pub RoundsGoDown : Type 0
-RoundsGoDown = (limit : ℕ) (hold : Bool) → (R : Repository) → SoundRepository R → GoesDown limit hold R
+RoundsGoDown = (limit : ℕ) (hold : Bool) → (R : Repository) → SoundRepository R →
+    GoesDown limit hold R
 
 -- without hold a limit may refuse a kernel, but does not change it, and no package is held
 pub record SameWithoutHold (limit other : ℕ) (R : Repository) : Type 0 where
@@ -142,4 +163,5 @@ pub record HoldUnused (limit : ℕ) (R : Repository) : Type 0 where
   pub within : limit_at limit true R ≡ None
 
 abbrev pub HoldIsUnused : Type 0
-HoldIsUnused = (limit : ℕ) (R : Repository) → SoundRepository R → limit_at limit false R ≡ None → HoldUnused limit R
+HoldIsUnused = (limit : ℕ) (R : Repository) → SoundRepository R →
+    limit_at limit false R ≡ None → HoldUnused limit R

@@ -1,4 +1,4 @@
--- Steps whose books come into another pool, and pools that have some rows alone.
+-- Steps whose books come into another pool, and pools that have only some rows.
 use Rattle.std.specs.Prelude.{◌≡◌, ℕ, ◌<◌, List, [], ◌∷◌, ◌++◌, length}
 use Rattle.clause_pool.specs.Interned.{Interned, Kept, ids_at}
 use Rattle.row_book.specs.{declared.book.Book.{Book}, declared.trail.Step.{Step}, declared.trail.Step.TheVariants.{Flat, Idle, Merge}, Book.{AddsOnly}}
@@ -20,13 +20,14 @@ trail_rows (step ∷ steps) = step_rows step ++ trail_rows steps
 abbrev pub live_rows : Book → List Step → List ℕ
 live_rows book steps = book.rows ++ trail_rows steps
 
--- a step in another pool: the same, and sound where the first is
+-- a step in another pool: its meaning is the same, and it is sound if the first is
 pub record IsSameStep (pool : Interned) (step : Step) (new : Interned) (moved : Step) : Type 0 where
   pub meaning : step_meaning new moved ≡ step_meaning pool step
   pub sound : SoundStep pool step → SoundStep new moved
 
--- steps in another pool: the same, and sound where the first are
-pub record AreSameSteps (pool : Interned) (steps : List Step) (new : Interned) (moved : List Step) : Type 0 where
+-- steps in another pool: their meaning is the same, and they are sound if the first are
+pub record AreSameSteps (pool : Interned) (steps : List Step) (new : Interned)
+    (moved : List Step) : Type 0 where
   pub meaning : trail_meaning new moved ≡ trail_meaning pool steps
   pub sound : SoundSteps pool steps → SoundSteps new moved
 
@@ -34,10 +35,13 @@ pub record AreSameSteps (pool : Interned) (steps : List Step) (new : Interned) (
 pub record HasOnly (pool : Interned) (these : List ℕ) : Type 0 where
   pub of_pool : (id : ℕ) → In id these → id < length pool.rows
   pub rows : (id : ℕ) → id < length pool.rows → In id these
-  pub clauses : (id : ℕ) → id < length pool.clauses → (row : ℕ) × In row these × In id (ids_at pool row)
+  pub clauses : (id : ℕ) → id < length pool.clauses →
+      (row : ℕ) × In row these × In id (ids_at pool row)
 
--- the pool has gained steps that tell this, which are sound: the rows of their books with the clauses of these, and no others
-pub record HasSteps (start pool : Interned) (steps : List Step) (told : List RoundStep) : Type 0 where
+-- the pool has gained steps with this meaning, which are sound: the rows of their books with the
+-- clauses of these, and no others
+pub record HasSteps (start pool : Interned) (steps : List Step)
+    (told : List RoundStep) : Type 0 where
   pub meaning : trail_meaning pool steps ≡ told
   pub books : SoundSteps pool steps
   pub only : AddsOnly start pool (trail_rows steps)

@@ -14,8 +14,9 @@ use clause_pool::Pool;
 use row_book::{Book, StepList};
 use std::alloc::{AllocError, Global};
 
-/// A kernel on its way: the book after some rounds, in the pool that the rounds work in, the class of each package in it,
-/// the steps so far, in the pool that the kernel is for, and the number of the next round.
+/// A kernel on its way. It has the book after some rounds, in the pool that the rounds work in, and
+/// the class of each package in it. It has the steps so far, in the pool that the kernel is for,
+/// and the number of the next round.
 #[derive(Drop)]
 pub(crate) struct Progress {
     pub(crate) book: Book,
@@ -45,7 +46,7 @@ pub(crate) fn compose(alloc: Global, class_of: &[u32], next: &[u32]) -> Result<V
     Ok(made)
 }
 
-/// The least package of the class, or the number of all where none is of it.
+/// The least package of the class, or the number of all packages if there is none.
 fn least_member(class_of: &[u32], class: u32) -> u32
     requires { length class_of.now < 4294967296 }
     ensures { result ≡ place_of (λ k. eqb k class) class_of.now }
@@ -58,7 +59,7 @@ fn least_member(class_of: &[u32], class: u32) -> u32
     class_of.len() as u32
 }
 
-/// Why no kernel is extracted where the flattening of a round is refused.
+/// Why no kernel is extracted if the flattening of a round is refused.
 pub(crate) fn round_error(fault: FlatError, number: u32, class_of: &[u32]) -> RoundError
     requires { length class_of.now < 4294967296 }
     ensures { result ≡ refusal number class_of.now fault }
@@ -78,7 +79,7 @@ pub(crate) fn round_error(fault: FlatError, number: u32, class_of: &[u32]) -> Ro
     }
 }
 
-/// So many numbers, from 0 on.
+/// The numbers from 0 on: each package is its own class.
 fn own_classes(alloc: Global, size: u32) -> Result<Vec<u32>, AllocError>
     ensures { IfOk result (λ made. made.items ≡ numbers size 0) }
 {
@@ -91,7 +92,8 @@ fn own_classes(alloc: Global, size: u32) -> Result<Vec<u32>, AllocError>
 
 /// Before the first round: the book as it is, each package as a class of its own, and no steps.
 pub(crate) fn begin(alloc: Global, book: &Book) -> Result<Progress, AllocError>
-    ensures { (pool : Interned) (limit : ℕ) (hold : Bool) → Sound pool book.now → IfOk result (IsMidway (repository_of pool book.now) limit hold pool pool pool) }
+    ensures { (pool : Interned) (limit : ℕ) (hold : Bool) → Sound pool book.now →
+        IfOk result (IsMidway (repository_of pool book.now) limit hold pool pool pool) }
 {
     let own = book.copy(alloc)?;
     let class_of = own_classes(alloc, book.size())?;
@@ -103,8 +105,8 @@ pub(crate) fn begin(alloc: Global, book: &Book) -> Result<Progress, AllocError>
     })
 }
 
-/// The book before the round of the number as it stands in the other pool. The first one has the same ids there, and needs no
-/// look for each row; any other comes into that pool.
+/// The book before the round of the number, in the other pool. The first one has the same ids
+/// there, and needs no look for each row; any other comes into that pool.
 fn book_in(
     alloc: Global,
     book: &Book,
@@ -113,7 +115,8 @@ fn book_in(
     into: &mut Pool,
 ) -> Result<Book, AllocError>
     requires { Sound from.now book.now }
-    ensures same { (number ≡ 1 → IsSameBook from.now book.now into.old book.now) → IfOk result (IsSameBook from.now book.now into.new) }
+    ensures same { (number ≡ 1 → IsSameBook from.now book.now into.old book.now) →
+        IfOk result (IsSameBook from.now book.now into.new) }
     ensures only { IfOk result (λ made. AddsOnly into.old into.new made.rows) }
     ensures kept { Kept into.old into.new }
 {
@@ -125,8 +128,9 @@ fn book_in(
     Ok(made)
 }
 
-/// After a round that changed something: its steps come into the other pool, and then the pool that it worked in keeps the
-/// rows of its book alone, so that no later round carries the first repository on.
+/// After a round that changed something its steps come into the other pool. Then the pool that it
+/// worked in only keeps the rows of its book, so that no later round carries the first repository
+/// on.
 pub(crate) fn go_on(
     alloc: Global,
     now: Progress,
@@ -137,10 +141,14 @@ pub(crate) fn go_on(
     requires before { Sound work.old now.book }
     requires after { Sound work.old made.book }
     requires into { IsPool into.old }
-    ensures next { (R : Repository) (limit : ℕ) (hold : Bool) (start old : Interned) → SoundRepository R → IsMidway R limit hold start into.old old now →
-        repository_of work.old now.book ≡ repository_of old now.book → IsReduced limit hold (repository_of old now.book) work.old made →
-        (round limit hold (repository_of old now.book) ≡ repository_of old now.book → ⊥) → IfOk result (IsMidway R limit hold start into.new work.new) }
-    ensures book { IfOk result (λ next. repository_of work.new next.book ≡ repository_of work.old made.book) }
+    ensures next { (R : Repository) (limit : ℕ) (hold : Bool) (start old : Interned) →
+        SoundRepository R → IsMidway R limit hold start into.old old now →
+        repository_of work.old now.book ≡ repository_of old now.book →
+        IsReduced limit hold (repository_of old now.book) work.old made →
+        (round limit hold (repository_of old now.book) ≡ repository_of old now.book → ⊥) →
+        IfOk result (IsMidway R limit hold start into.new work.new) }
+    ensures book { IfOk result (λ next. repository_of work.new next.book
+        ≡ repository_of work.old made.book) }
     ensures kept { Kept into.old into.new }
 {
     let Reduced {

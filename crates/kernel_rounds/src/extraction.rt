@@ -1,7 +1,7 @@
 //! Extraction of a kernel.
 //!
-//! Rounds work in a copy of the caller's pool, which is compacted each round, so no later round carries the first repository
-//! on. The first book has the same ids in both pools.
+//! Rounds work in a copy of the caller's pool, which is compacted each round, so no later round
+//! carries the first repository on. The first book has the same ids in both pools.
 ghost use Rattle.std.specs.Prelude.{Some, ◌≡◌, ◌<◌, IfErr, IfOk, ℕ};
 ghost use Rattle.clause_pool.specs.Interned.{Interned, IsPool, Kept};
 ghost use Rattle.row_book.specs.{Book.{repository_of, AddsOnly, Sound}, Keeping.{KeepsImages}, Repository.{Repository}, Sound.{SoundRepository}};
@@ -25,7 +25,7 @@ pub struct Kernel {
     pub class_of: NumList,
     /// The held packages of the book, ascending.
     pub held: NumList,
-    /// Whether the rounds held packages where a row would have passed the limit.
+    /// Whether the rounds held packages whose elimination would have made a row pass the limit.
     pub hold: bool,
     /// The steps by which the kernel came from the old book.
     pub trail: Trail,
@@ -42,11 +42,15 @@ fn finish(
 ) -> Result<Kernel, AllocError>
     requires sound { Sound from.now made.book }
     requires into { IsPool into.old }
-    ensures kernel { (R : Repository) (limit : ℕ) (start old : Interned) → SoundRepository R → IsMidway R limit hold start into.old old now →
-        IsReduced limit hold (repository_of old now.book) from.now made → round limit hold (repository_of old now.book) ≡ repository_of old now.book →
-        IfOk result (λ kernel. IsExtracted R limit hold start into.new kernel.book kernel.class_of kernel.held kernel.trail.steps) }
+    ensures kernel { (R : Repository) (limit : ℕ) (start old : Interned) → SoundRepository R →
+        IsMidway R limit hold start into.old old now →
+        IsReduced limit hold (repository_of old now.book) from.now made →
+        round limit hold (repository_of old now.book) ≡ repository_of old now.book →
+        IfOk result (λ kernel. IsExtracted R limit hold start into.new kernel.book kernel.class_of
+        kernel.held kernel.trail.steps) }
     ensures hold { IfOk result (λ kernel. kernel.hold ≡ hold) }
-    ensures only { (R : Repository) (limit : ℕ) (start old : Interned) → IsMidway R limit hold start into.old old now →
+    ensures only { (R : Repository) (limit : ℕ) (start old : Interned) →
+        IsMidway R limit hold start into.old old now →
         IfOk result (λ kernel. AddsOnly start into.new (live_rows kernel.book kernel.trail.steps)) }
     ensures kept { Kept into.old into.new }
 {
@@ -60,8 +64,8 @@ fn finish(
     })
 }
 
-/// The kernel of a book that has the same ids in the pool that the rounds work in. The other pool gains the rows of the kernel's
-/// book and of the books of the steps with their clauses alone.
+/// The kernel of a book that has the same ids in the pool that the rounds work in. The other pool
+/// gains only the rows of the kernel's book and of the books of the steps, with their clauses.
 fn rounds(
     alloc: Global,
     work: &mut Pool,
@@ -73,11 +77,15 @@ fn rounds(
     requires sound { Sound into.old book.now }
     requires same { work.old ≡ into.old }
     requires limit { 0 < limit }
-    ensures kernel { IfOk result (λ made. IsExtracted (repository_of into.old book.now) limit hold into.old into.new made.book made.class_of made.held made.trail.steps) }
+    ensures kernel { IfOk result (λ made. IsExtracted (repository_of into.old book.now) limit hold
+        into.old into.new made.book made.class_of made.held made.trail.steps) }
     ensures hold { IfOk result (λ made. made.hold ≡ hold) }
-    ensures only { IfOk result (λ made. AddsOnly into.old into.new (live_rows made.book made.trail.steps)) }
-    ensures passed { IfErr result (OnRoundLimit (λ passed. limit_at limit hold (repository_of into.old book.now) ≡ Some passed)) }
-    ensures refused_only { IfErr result (OnRoundLimit (λ _. HasStepsBefore (repository_of into.old book.now) limit hold into.old into.new)) }
+    ensures only { IfOk result (λ made.
+        AddsOnly into.old into.new (live_rows made.book made.trail.steps)) }
+    ensures passed { IfErr result (OnRoundLimit (λ passed.
+        limit_at limit hold (repository_of into.old book.now) ≡ Some passed)) }
+    ensures refused_only { IfErr result (OnRoundLimit (λ _.
+        HasStepsBefore (repository_of into.old book.now) limit hold into.old into.new)) }
     ensures kept { Kept into.old into.new }
 {
     let mut now = begin(alloc, book)?;
@@ -94,14 +102,17 @@ fn rounds(
     }
 }
 
-/// The kernel of the book: rounds of flattening, merging, pruning and thinning go on until one changes nothing.
+/// The kernel of the book: rounds of flattening, merging, pruning and thinning go on until one
+/// changes nothing.
 ///
-/// Without hold it is refused where a row has more clauses than the limit allows at some stage of the flattening of some round,
-/// with the first such round. With hold a package stays where its elimination would make a row pass the limit, and the kernel is
-/// refused only where a row passes it before any package of the round is eliminated.
+/// Without hold it is refused if a row has more clauses than the limit allows at some stage of the
+/// flattening of some round; the first such round is named. With hold a package stays if its
+/// elimination would make a row pass the limit. The kernel is then refused only if a row passes it
+/// before any package of the round is eliminated.
 ///
-/// The rounds work in a pool of their own: what the pool held stays, and it gains the rows of the kernel's book and of the books
-/// in the trail with their clauses alone; by a refusal for the limit those of the books in the steps of all rounds before it.
+/// The rounds work in a pool of their own. What the pool held stays. It gains only the rows of the
+/// kernel's book and of the books in the trail, with their clauses. By a refusal for the limit it
+/// gains those of the books in the steps of all rounds before it.
 pub fn extract(
     alloc: Global,
     pool: &mut Pool,
@@ -111,14 +122,21 @@ pub fn extract(
 ) -> Result<Kernel, RoundError>
     requires sound { Sound pool.old book.now }
     requires limit { 0 < limit }
-    ensures kernel { IfOk result (λ made. IsExtracted (repository_of pool.old book.now) limit hold pool.old pool.new made.book made.class_of made.held made.trail.steps) }
+    ensures kernel { IfOk result (λ made. IsExtracted (repository_of pool.old book.now) limit hold
+        pool.old pool.new made.book made.class_of made.held made.trail.steps) }
     ensures hold { IfOk result (λ made. made.hold ≡ hold) }
-    ensures keeps { IfOk result (λ made. KeepsImages (repository_of pool.old book.now) (repository_of pool.new made.book) (kernel_image limit hold (repository_of pool.old book.now))) }
+    ensures keeps { IfOk result (λ made.
+        KeepsImages (repository_of pool.old book.now) (repository_of pool.new made.book)
+        (kernel_image limit hold (repository_of pool.old book.now))) }
     ensures settled { IfOk result (λ made. Settled limit hold (repository_of pool.new made.book)) }
-    ensures own { IfOk result (λ made. IsOwnKernel (repository_of pool.new made.book) made.held limit hold) }
-    ensures only { IfOk result (λ made. AddsOnly pool.old pool.new (live_rows made.book made.trail.steps)) }
-    ensures passed { IfErr result (OnRoundLimit (λ passed. limit_at limit hold (repository_of pool.old book.now) ≡ Some passed)) }
-    ensures refused_only { IfErr result (OnRoundLimit (λ _. HasStepsBefore (repository_of pool.old book.now) limit hold pool.old pool.new)) }
+    ensures own { IfOk result (λ made.
+        IsOwnKernel (repository_of pool.new made.book) made.held limit hold) }
+    ensures only { IfOk result (λ made.
+        AddsOnly pool.old pool.new (live_rows made.book made.trail.steps)) }
+    ensures passed { IfErr result (OnRoundLimit (λ passed.
+        limit_at limit hold (repository_of pool.old book.now) ≡ Some passed)) }
+    ensures refused_only { IfErr result (OnRoundLimit (λ _.
+        HasStepsBefore (repository_of pool.old book.now) limit hold pool.old pool.new)) }
     ensures kept { Kept pool.old pool.new }
 {
     let mut work = pool.copy(alloc)?;

@@ -1,5 +1,6 @@
-//! What is known of the rounds behind the first from an earlier extraction. Many books that differ by a few changes come to one and the same
-//! repository by their first round, so that the rounds behind it need not be run again.
+//! The rounds after the first, kept from an earlier extraction. Many books that differ by a few
+//! changes come to one and the same repository by their first round, so that the rounds after it
+//! need not be run again.
 ghost use Rattle.std.specs.{Prelude.{◌≡◌, ◌<◌, false, None, Some, IfOk}, Bool.{OnTrue}, Option.{ForSome}};
 ghost use Rattle.class_merge.specs.Masks.{IsMaskOfRows};
 ghost use Rattle.row_book.specs.{Book.{repository_of, Sound}, Repository.{Repository}, Rounds.{limit_at}};
@@ -16,7 +17,8 @@ use listed::Listed;
 use row_book::{Book, is_same_book};
 use std::alloc::{AllocError, Global};
 
-/// What a first round has left, without hold, with its kernel, and the class in that kernel of each package that was left.
+/// What a first round without hold has left, its kernel, and the class in that kernel of each
+/// package that was left.
 #[derive(Drop)]
 pub struct KnownRounds {
     /// The pool of the kernel's rows.
@@ -31,7 +33,8 @@ pub struct KnownRounds {
     pub(crate) limit: u32,
 }
 
-/// The class of each package of a mask in the kernel of their part, in the numbers of all packages, and the kernel.
+/// The class of each package of a mask in the kernel of their part, in the numbers of all packages,
+/// and the kernel.
 #[derive(Drop)]
 pub struct Classified {
     /// For each package its class; that of a package that is not in the mask says nothing.
@@ -40,10 +43,11 @@ pub struct Classified {
     pub rounds: KnownRounds,
 }
 
-/// The class of each package of a mask in the kernel of their part, without hold, and the kernel, by the flattened rows of the part, in the numbers of
-/// all packages. None if a row has more clauses than the limit allows at some stage of a round after the first. What is known of the rounds after
-/// the first from an earlier call may be given; if the first round leaves the same repository at the same limit it is taken, which saves
-/// these rounds and changes neither classes nor kernel.
+/// The class of each package of a mask in the kernel of their part, without hold, and the kernel.
+/// It is made from the flattened rows of the part, in the numbers of all packages. None if a row
+/// has more clauses than the limit allows at some stage of a round after the first. The rounds
+/// after the first of an earlier call may be given: they are taken if the first round leaves the
+/// same repository at the same limit. This saves time and changes no result.
 pub fn classes_of_part(
     alloc: Global,
     masked: &MaskedRows,
@@ -53,9 +57,12 @@ pub fn classes_of_part(
     requires mask { IsMaskOfRows masked.now }
     requires limit { 0 < limit }
     requires earlier { ForSome earlier.old AreKnownRounds }
-    ensures classes { (P : Repository) → IsFlatPart limit P masked.now → IfOk result (λ made. ForSome made (IsClassifiedPart limit P masked.now.flags.now)) }
-    ensures rounds { IfOk result (λ made. ForSome made (λ classified. AreKnownRounds classified.rounds)) }
-    ensures passed { (P : Repository) → IsFlatPart limit P masked.now → IfOk result (λ made. made ≡ None → limit_at limit false P ≡ None → ⊥) }
+    ensures classes { (P : Repository) → IsFlatPart limit P masked.now →
+        IfOk result (λ made. ForSome made (IsClassifiedPart limit P masked.now.flags.now)) }
+    ensures rounds { IfOk result (λ made.
+        ForSome made (λ classified. AreKnownRounds classified.rounds)) }
+    ensures passed { (P : Repository) → IsFlatPart limit P masked.now →
+        IfOk result (λ made. made ≡ None → limit_at limit false P ≡ None → ⊥) }
     ensures earlier { ForSome earlier.new AreKnownRounds }
 {
     let mut pool = Pool::new(alloc)?;
@@ -75,8 +82,9 @@ pub fn classes_of_part(
     }))
 }
 
-// What is known of the rounds behind the first, which has left this book: what was known earlier where that is of the same repository at
-// the same limit. None where a row has more clauses than the limit allows at some stage of one of these rounds.
+// The rounds after the first, which has left this book: those of the earlier call, if they are of
+// the same repository at the same limit. None if a row has more clauses than the limit allows at
+// some stage of one of these rounds.
 fn rounds_behind(
     alloc: Global,
     pool: Pool,
@@ -88,8 +96,10 @@ fn rounds_behind(
     requires limit { 0 < limit }
     requires earlier { ForSome earlier.old AreKnownRounds }
     ensures known { IfOk result (λ made. ForSome made AreKnownRounds) }
-    ensures of_first { IfOk result (λ made. ForSome made (λ rounds. AreRoundsOf rounds limit (repository_of pool first))) }
-    ensures passed { IfOk result (λ made. made ≡ None → limit_at limit false (repository_of pool first) ≡ None → ⊥) }
+    ensures of_first { IfOk result (λ made.
+        ForSome made (λ rounds. AreRoundsOf rounds limit (repository_of pool first))) }
+    ensures passed { IfOk result (λ made. made ≡ None →
+        limit_at limit false (repository_of pool first) ≡ None → ⊥) }
     ensures earlier { ForSome earlier.new AreKnownRounds }
 {
     if are_there(earlier, &pool, &first, limit) {
@@ -98,11 +108,12 @@ fn rounds_behind(
     new_rounds(alloc, pool, first, limit)
 }
 
-// Whether something is known, and is of the repository of the book, at this limit.
+// Whether rounds are kept that are of the repository of the book, at this limit.
 fn are_there(earlier: &Option<KnownRounds>, pool: &Pool, first: &Book, limit: u32) -> bool
     requires earlier { ForSome earlier.now AreKnownRounds }
     requires sound { Sound pool.now first.now }
-    ensures { OnTrue result ((rounds : KnownRounds) × (earlier.now ≡ Some rounds) × AreRoundsOf rounds limit (repository_of pool.now first.now)) }
+    ensures { OnTrue result ((rounds : KnownRounds) × (earlier.now ≡ Some rounds)
+        × AreRoundsOf rounds limit (repository_of pool.now first.now)) }
 {
     match earlier {
         Some(rounds) => is_of(rounds, pool, first, limit),
@@ -110,7 +121,7 @@ fn are_there(earlier: &Option<KnownRounds>, pool: &Pool, first: &Book, limit: u3
     }
 }
 
-// Whether what is known is of the repository of the book, at this limit.
+// Whether the kept rounds are of the repository of the book, at this limit.
 fn is_of(known: &KnownRounds, pool: &Pool, first: &Book, limit: u32) -> bool
     requires known { Sound known.now.pool known.now.first }
     requires sound { Sound pool.now first.now }
@@ -122,8 +133,8 @@ fn is_of(known: &KnownRounds, pool: &Pool, first: &Book, limit: u32) -> bool
     is_same_book(&known.pool, &known.first, pool, first)
 }
 
-// What is known of the rounds behind the first, once they were run. None where a row has more clauses than the limit allows at some stage
-// of one of them.
+// The rounds after the first, run anew. None if a row has more clauses than the limit allows at
+// some stage of one of them.
 fn new_rounds(
     alloc: Global,
     mut pool: Pool,
@@ -133,8 +144,10 @@ fn new_rounds(
     requires sound { Sound pool first }
     requires limit { 0 < limit }
     ensures known { IfOk result (λ made. ForSome made AreKnownRounds) }
-    ensures of_first { IfOk result (λ made. ForSome made (λ rounds. AreRoundsOf rounds limit (repository_of pool first))) }
-    ensures passed { IfOk result (λ made. made ≡ None → limit_at limit false (repository_of pool first) ≡ None → ⊥) }
+    ensures of_first { IfOk result (λ made.
+        ForSome made (λ rounds. AreRoundsOf rounds limit (repository_of pool first))) }
+    ensures passed { IfOk result (λ made. made ≡ None →
+        limit_at limit false (repository_of pool first) ≡ None → ⊥) }
 {
     let (first, _) = keep_live(alloc, &mut pool, &first, &[])?;
     match extract(alloc, &mut pool, &first, limit, false) {

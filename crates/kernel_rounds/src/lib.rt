@@ -1,5 +1,5 @@
-//! Rounds of flattening, merging, pruning and thinning, up to the kernel, which no further round changes. The functions of
-//! `laws` do nothing, the contract of each is one law.
+//! Rounds of flattening, merging, pruning and thinning, up to the kernel, which no further round
+//! changes. The functions of `laws` do nothing: the contract of each is one law.
 #![tactic(auto)]
 
 mod advancing;

@@ -10,7 +10,7 @@ use listed::Listed;
 use row_book::{Book, Step, StepList};
 use std::alloc::{AllocError, Global};
 
-/// The same numbers.
+/// A copy of the list.
 pub(crate) fn copied(alloc: Global, list: &NumList) -> Result<NumList, AllocError>
     ensures { IfOk result (λ made. made ≡ list.now) }
 {
@@ -39,10 +39,11 @@ fn live_rows(alloc: Global, book: &Book, steps: &[Step]) -> Result<Vec<RowId>, A
     Ok(rows)
 }
 
-/// The same step in the pool that a compaction has left.
+/// The step in the pool that a compaction has left.
 fn rename_step(alloc: Global, step: &Step, remap: &Remap) -> Result<Step, AllocError>
     requires { (id : ℕ) → In id (step_rows step.now) → Knows remap.now id }
-    ensures { IfOk result (λ made. (old new : Interned) (live : List ℕ) → Compacts old live remap.now new → IsSameStep old step.now new made) }
+    ensures { IfOk result (λ made. (old new : Interned) (live : List ℕ) →
+        Compacts old live remap.now new → IsSameStep old step.now new made) }
 {
     match step {
         Step::Flat { before } => {
@@ -68,10 +69,11 @@ fn rename_step(alloc: Global, step: &Step, remap: &Remap) -> Result<Step, AllocE
     }
 }
 
-/// The same steps in the pool that a compaction has left.
+/// The steps in the pool that a compaction has left.
 fn rename_steps(alloc: Global, steps: &[Step], remap: &Remap) -> Result<StepList, AllocError>
     requires { (id : ℕ) → In id (trail_rows steps.now) → Knows remap.now id }
-    ensures { IfOk result (λ made. (old new : Interned) (live : List ℕ) → Compacts old live remap.now new → AreSameSteps old steps.now new made) }
+    ensures { IfOk result (λ made. (old new : Interned) (live : List ℕ) →
+        Compacts old live remap.now new → AreSameSteps old steps.now new made) }
 {
     let mut made = StepList::new(alloc);
     for step in steps {
@@ -81,8 +83,8 @@ fn rename_steps(alloc: Global, steps: &[Step], remap: &Remap) -> Result<StepList
     Ok(made)
 }
 
-/// Leaves the rows of the book and of the books of the steps alone in the pool, and gives the same book and steps over what
-/// is left.
+/// Leaves only the rows of the book and of the books of the steps in the pool, and returns the book
+/// and the steps over what is left.
 pub(crate) fn keep_live(
     alloc: Global,
     pool: &mut Pool,

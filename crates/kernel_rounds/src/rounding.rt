@@ -25,14 +25,14 @@ pub struct Rounded {
     pub class_of: NumList,
     /// The held packages of the old book, ascending.
     pub held: NumList,
-    /// The steps from before, and where the round changed something, its own.
+    /// The earlier steps, and those of the round if it changed something.
     pub trail: Trail,
     /// Whether the round changed something.
     pub changed: bool,
 }
 
-/// A book after the four reductions, with the class of each package, the held packages of the book before, and the idle steps of
-/// pruning.
+/// A book after the four reductions, with the class of each package, the held packages of the book
+/// before, and the idle steps of pruning.
 #[derive(Drop)]
 pub(crate) struct Reduced {
     pub(crate) book: Book,
@@ -56,8 +56,10 @@ pub(crate) fn prune_and_thin(
 ) -> Result<Shrunk, AllocError>
     requires sound { Sound pool.old book.now }
     requires tidy { RowsTidy pool.old book.now.rows }
-    ensures book { IfOk result (λ made. repository_of pool.new made.book ≡ thin (prune (repository_of pool.old book.now))) }
-    ensures idle { IfOk result (λ made. trail_meaning pool.new made.idle ≡ map IdleStep (idle_steps (repository_of pool.old book.now))) }
+    ensures book { IfOk result (λ made. repository_of pool.new made.book
+        ≡ thin (prune (repository_of pool.old book.now))) }
+    ensures idle { IfOk result (λ made. trail_meaning pool.new made.idle
+        ≡ map IdleStep (idle_steps (repository_of pool.old book.now))) }
     ensures sound { IfOk result (λ made. Sound pool.new made.book) }
     ensures kept { Kept pool.old pool.new }
 {
@@ -79,8 +81,10 @@ pub(crate) fn reduce(
 ) -> Result<Reduced, FlatError>
     requires sound { Sound pool.old book.now }
     requires limit { 0 < limit }
-    ensures reduced { IfOk result (IsReduced limit hold (repository_of pool.old book.now) pool.new) }
-    ensures passed { IfErr result (OnLimit (λ passed. passes limit hold (repository_of pool.old book.now) ≡ Some passed)) }
+    ensures reduced { IfOk result
+        (IsReduced limit hold (repository_of pool.old book.now) pool.new) }
+    ensures passed { IfErr result (OnLimit (λ passed.
+        passes limit hold (repository_of pool.old book.now) ≡ Some passed)) }
     ensures kept { Kept pool.old pool.new }
 {
     let Flattened { book: flat, held } = flatten(alloc, pool, book, limit, hold)?;
@@ -94,7 +98,7 @@ pub(crate) fn reduce(
     })
 }
 
-/// The steps with those of a round after them.
+/// Appends the steps of a round.
 pub(crate) fn add_round(
     steps: StepList,
     before: Book,
@@ -110,7 +114,7 @@ pub(crate) fn add_round(
     Ok(made)
 }
 
-/// The steps, and if a round changed something, its own after them.
+/// Appends the steps of a round, if it changed something.
 fn add_changes(
     alloc: Global,
     steps: StepList,
@@ -119,7 +123,8 @@ fn add_changes(
     idle: StepList,
     changed: bool,
 ) -> Result<StepList, AllocError>
-    ensures { IfOk result (λ made. made ≡ (if changed then steps ++ (Flat before ∷ (Merge class_of.now ∷ idle)) else steps)) }
+    ensures { IfOk result (λ made. made
+        ≡ (if changed then steps ++ (Flat before ∷ (Merge class_of.now ∷ idle)) else steps)) }
 {
     if !changed {
         return Ok(steps);
@@ -128,11 +133,12 @@ fn add_changes(
     add_round(steps, before, class_of, idle)
 }
 
-/// One round: flattening, merging, pruning and thinning. At its end the pool is compacted: it has the rows of the new book
-/// and of the books in the new trail, and no others.
+/// One round: flattening, merging, pruning and thinning. At its end the pool is compacted: it has
+/// the rows of the new book and of the books in the new trail, and no others.
 ///
-/// With hold a package stays where its elimination would make a row pass the limit. The round is refused as `flatten` is on the
-/// book. A refusal drops the book and the trail, and nothing is promised of the pool's ids afterwards.
+/// With hold a package stays if its elimination would make a row pass the limit. The round is
+/// refused as `flatten` is on the book. A refusal drops the book and the trail, and promises
+/// nothing of the pool's ids.
 pub fn one_round(
     alloc: Global,
     pool: &mut Pool,
@@ -144,17 +150,23 @@ pub fn one_round(
     requires sound { Sound pool.old book }
     requires past { SoundSteps pool.old past.steps }
     requires limit { 0 < limit }
-    ensures round { IfOk result (λ made. repository_of pool.new made.book ≡ round limit hold (repository_of pool.old book)) }
-    ensures classes { IfOk result (λ made. made.class_of ≡ class_list (flat limit hold (repository_of pool.old book))) }
-    ensures held { IfOk result (λ made. made.held ≡ held_of limit hold (repository_of pool.old book)) }
-    ensures changed { IfOk result (λ made. (made.changed ≡ false) ↔ (round limit hold (repository_of pool.old book) ≡ repository_of pool.old book)) }
+    ensures round { IfOk result (λ made. repository_of pool.new made.book
+        ≡ round limit hold (repository_of pool.old book)) }
+    ensures classes { IfOk result (λ made. made.class_of
+        ≡ class_list (flat limit hold (repository_of pool.old book))) }
+    ensures held { IfOk result (λ made. made.held
+        ≡ held_of limit hold (repository_of pool.old book)) }
+    ensures changed { IfOk result (λ made. (made.changed ≡ false)
+        ↔ (round limit hold (repository_of pool.old book) ≡ repository_of pool.old book)) }
     ensures trail { IfOk result (λ made. trail_meaning pool.new made.trail.steps ≡
-        trail_meaning pool.old past.steps ++ (if made.changed then round_steps limit hold (repository_of pool.old book) else [])) }
+        trail_meaning pool.old past.steps
+        ++ (if made.changed then round_steps limit hold (repository_of pool.old book) else [])) }
     ensures sound { IfOk result (λ made. Sound pool.new made.book) }
     ensures books { IfOk result (λ made. SoundSteps pool.new made.trail.steps) }
     ensures only { IfOk result (λ made. HasOnly pool.new (live_rows made.book made.trail.steps)) }
     ensures within { OnOk result (passes limit hold (repository_of pool.old book) ≡ None) }
-    ensures passed { IfErr result (OnLimit (λ passed. passes limit hold (repository_of pool.old book) ≡ Some passed)) }
+    ensures passed { IfErr result (OnLimit (λ passed.
+        passes limit hold (repository_of pool.old book) ≡ Some passed)) }
 {
     let made = reduce(alloc, pool, &book, limit, hold)?;
     let changed = !same_books(pool, &book, &made.book);

@@ -13,7 +13,7 @@ use Rattle.listed.proofs.Lists.{In_append_cases, In_cases, In_map, In_map_cases,
 use Rattle.row_book.proofs.Numbers.{at_numbers, length_numbers}
 use Rattle.kernel_text.specs.{declared.reader.Clause.{Clause}, Booking.{AreRows, HasIdsByClass, IsBookable}}
 use Rattle.kernel_text.specs.{Reading.{clauses_of_class, repository_of_reading, ClassClause, Reading}, declared.reader.Reader.{Reader}}
-use Rattle.kernel_text.specs.Reader.{Holds, entry_of}
+use Rattle.kernel_text.specs.Reader.{HoldsReading, entry_of}
 use Rattle.kernel_text.proofs.Retold.{eqb_other}
 
 pub no_ids : (pool : Interned) (classes : ℕ) (table : List (List ℕ)) → length table ≡ classes → ((n : ℕ) → listed_for table n ≡ []) → HasIdsByClass pool [] classes table
@@ -119,7 +119,7 @@ row_more start old new lists i ids rows more row l at are first kept is of_start
     both = kept_along start old new first kept
 
 -- a reader holds one reading
-pub held_reading : (reader : Reader) (t u : Reading) → Holds reader t → Holds reader u → (t.clauses ≡ u.clauses) × (t.classes ≡ u.classes) × (t.conflicts ≡ u.conflicts)
+pub held_reading : (reader : Reader) (t u : Reading) → HoldsReading reader t → HoldsReading reader u → (t.clauses ≡ u.clauses) × (t.classes ≡ u.classes) × (t.conflicts ≡ u.conflicts)
 held_reading reader t u h k = (sym h.clauses ∙ k.clauses, sym h.classes ∙ k.classes, sym h.conflicts ∙ k.conflicts)
 
 -- the place of a list
@@ -179,9 +179,9 @@ module _ (pool : Interned) (t : Reading) (entries : List ClassClause) (table : L
         ap₂ R (ap (map (row_at new)) of_rows ∙ rows_say) (of_pairs ∙ ap (lists_of_pairs t.conflicts) rows_count)
 
     -- the book that was built
-    pub book_is : (reader : Reader) → Holds reader t → (pairs : List Pair) → pairs ≡ t.conflicts → (lent : List ℕ) → lent ≡ rows → {E : Type 0} → (made : Result Book E) →
+    pub book_is : (reader : Reader) → HoldsReading reader t → (pairs : List Pair) → pairs ≡ t.conflicts → (lent : List ℕ) → lent ≡ rows → {E : Type 0} → (made : Result Book E) →
         IfOk made (λ book. book.rows ≡ lent) → IfOk made (λ book. book.conflicts ≡ lists_of_pairs pairs (length lent)) →
-        IfOk made (λ book. (u : Reading) → Holds reader u → repository_of new book ≡ repository_of_reading u)
+        IfOk made (λ book. (u : Reading) → HoldsReading reader u → repository_of new book ≡ repository_of_reading u)
     unfolding repository_of_reading
     book_is reader h pairs same_pairs lent same_rows (Ok book) r p = λ u k.
         let w : (t.clauses ≡ u.clauses) × (t.classes ≡ u.classes) × (t.conflicts ≡ u.conflicts) = held_reading reader t u h k in

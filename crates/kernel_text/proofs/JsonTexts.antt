@@ -20,7 +20,7 @@ use Rattle.kernel_text.specs.declared.member.Member.{Member}
 use Rattle.kernel_text.specs.JsonData.{class_data, clauses_data, data_of_class, kernel_data, list_data, mark_of_class, number_data, numbers_data, package_data, packages_data, with_told}
 use Rattle.kernel_text.specs.KernelJson.{behind_commas, class_json, held_mark, kernel_json, list_json, member_json, numbers_json, object_json, package_json, quoted_text}
 use Rattle.kernel_text.specs.{KernelLines.{KernelLine, MemberLine}, KernelText.{format_of, greater_conflicts, line_of_member, members_of}}
-use Rattle.kernel_text.specs.{Members.{kernel_members}, Writing.{IsByClass, OfPackages, TellHeld, line_of_package}}
+use Rattle.kernel_text.specs.{Members.{kernel_members}, Writing.{IsByClass, NumbersPackages, TellHeld, line_of_package}}
 use Rattle.kernel_text.proofs.Written.{members_are}
 
 -- lists
@@ -259,7 +259,7 @@ at_packages packages named i l = named (stanza_at packages i) (in_at packages i 
 
 module _ (R : Repository) (packages : List PackageFacts) (class_of : List ℕ) (size : ℕ) (each : length class_of ≡ length packages)
     (inside : (class : ℕ) → In class class_of → class < size) (table : List (List ℕ)) (by_class : IsByClass class_of (length class_of) size table)
-    (members : OfPackages table packages) (named : AreNamedPackages packages) where
+    (members : NumbersPackages table packages) (named : AreNamedPackages packages) where
   class_is : (hold : Bool) (flags : List Bool) (held : List ℕ) → TellHeld flags held size → (n : ℕ) → n < size →
       compact_text (data_of_class R packages table (mark_of_class hold flags n) n) ≡ class_json (format_of hold) R (kernel_members packages class_of size) held n
   unfolding class_json

@@ -13,7 +13,7 @@ use Rattle.row_book.proofs.Numbers.{numbers_parts, numbers_more}
 use Rattle.kernel_text.specs.{declared.member.Member.{Member}, KernelLines.{KernelLine, HeadLine, ClassLine, NeedsLine, AgainstLine, EndLine, line_text}}
 use Rattle.kernel_text.specs.KernelText.{class_lines, greater_conflicts, held_lines, kernel_lines, kernel_text, line_of_member, members_of}
 use Rattle.kernel_text.specs.Members.{file_members, kernel_members}
-use Rattle.kernel_text.specs.Writing.{IsByClass, OfPackages, TellHeld, block_text, line_of_package, lines_text, numbers_of_class}
+use Rattle.kernel_text.specs.Writing.{IsByClass, NumbersPackages, TellHeld, block_text, line_of_package, lines_text, numbers_of_class}
 use Rattle.kernel_text.proofs.Classified.{all_counted, all_of_class, file_member, length_file}
 
 -- lists of classes: at first empty, and then with one more package
@@ -49,7 +49,7 @@ one_taken class_of i size table new c class inside before made = record {
         other a b f = grind arith
 
 pub of_packages : (class_of : List ℕ) (size : ℕ) (table : List (List ℕ)) (packages : List PackageFacts) → length class_of ≡ length packages →
-    IsByClass class_of (length class_of) size table → OfPackages table packages
+    IsByClass class_of (length class_of) size table → NumbersPackages table packages
 of_packages class_of size table packages each by_class n i j =
     elim (cases_lt n size) [
       | inl l ↦

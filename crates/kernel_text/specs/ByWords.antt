@@ -3,7 +3,7 @@ use Rattle.std.specs.{Prelude.{ℕ, ◌==◌, ◌||◌, Bool, List, [], ◌∷�
 use Rattle.deb_version.specs.Order.{number}
 use Rattle.kernel_text.specs.KernelLines.{KernelLine, HeadLine, ClassLine, MemberLine, HeldLine, NeedsLine, AgainstLine, EndLine}
 
--- the words of a line, each up to the space or the line feed behind it
+-- the words of a line, each up to the space or the line feed after it
 abbrev pub ends_word : ℕ → Bool
 ends_word b = b == 32 || b == 10
 
@@ -17,5 +17,7 @@ word_at words n = get_or words n []
 -- a line of each kind
 abbrev pub by_words : List (List ℕ) → List KernelLine
 by_words words =
-    HeadLine (number (word_at words 1)) ∷ (ClassLine (number (word_at words 1)) ∷ (MemberLine (word_at words 1) (word_at words 2) ∷ (NeedsLine (map number (drop 1 words))
-    ∷ (AgainstLine (number (word_at words 1)) ∷ (EndLine (number (word_at words 1)) (number (word_at words 2)) ∷ (HeldLine ∷ []))))))
+    HeadLine (number (word_at words 1)) ∷ (ClassLine (number (word_at words 1))
+    ∷ (MemberLine (word_at words 1) (word_at words 2) ∷ (NeedsLine (map number (drop 1 words))
+    ∷ (AgainstLine (number (word_at words 1))
+    ∷ (EndLine (number (word_at words 1)) (number (word_at words 2)) ∷ (HeldLine ∷ []))))))

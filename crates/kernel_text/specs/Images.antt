@@ -7,9 +7,10 @@ use Rattle.repo_model.specs.declared.goals.Goal.{Goal}
 use Rattle.kernel_text.specs.{declared.images.ImageError.{ImageError}, declared.images.ImageError.TheVariants.{Unknown, Memory}}
 use Rattle.kernel_text.specs.declared.member.Member.{Member}
 
--- the package has the goal's name, and a version that compares as equal where the goal has one
+-- the package has the goal's name, and a version that compares as equal if the goal has one
 abbrev pub is_named_by : Goal → Member → Bool
-is_named_by goal m = bytes_eq goal.name m.name && option_map_or (λ version. is_eq (version_order m.version version)) goal.version true
+is_named_by goal m = bytes_eq goal.name m.name
+    && option_map_or (λ version. is_eq (version_order m.version version)) goal.version true
 
 -- the class of the member of a number
 abbrev pub class_at : List Member → ℕ → ℕ
@@ -23,7 +24,7 @@ is_named_in goal n m = eqb n m.class && is_named_by goal m
 abbrev pub names_in_class : List Member → Goal → ℕ → Bool
 names_in_class members goal n = list_any (is_named_in goal n) members
 
--- of so many classes those with a package that the goal names, ascending
+-- the classes below `size` with a package that the goal names, ascending
 unfoldable pub image_of : List Member → ℕ → Goal → List ℕ
 image_of members size goal = filter (names_in_class members goal) (numbers size 0)
 
@@ -35,7 +36,7 @@ is_unknown members goal = not (list_any (is_named_by goal) members)
 abbrev pub unknown_goal : List Member → List Goal → Option ℕ
 unknown_goal members goals = position_from (is_unknown members) 1 goals
 
--- the goal that names no package, where that is why there are no images
-abbrev pub Refuses : Option ℕ → ImageError → Type 0
-Refuses found (Unknown goal) = found ≡ Some goal
-Refuses found Memory = ⊤
+-- the goal that names no package, if that is why there are no images
+abbrev pub NamesTheUnknown : Option ℕ → ImageError → Type 0
+NamesTheUnknown found (Unknown goal) = found ≡ Some goal
+NamesTheUnknown found Memory = ⊤

@@ -1,4 +1,5 @@
--- The lines of a kernel text with a clause, and those with a conflict, and how many there are of each.
+-- The lines of a kernel text with a clause, and those with a conflict, and how many there are of
+-- each.
 use Rattle.std.specs.{Prelude.{◌≡◌, ℕ, Bool, true, false, List, length}, List.{count_by, sum_by}}
 use Rattle.row_book.specs.{Numbers.{numbers}, Repository.{Repository, clauses_of}}
 use Rattle.kernel_text.specs.KernelLines.{KernelLine, HeadLine, ClassLine, MemberLine, HeldLine, NeedsLine, AgainstLine, EndLine}
@@ -23,10 +24,15 @@ is_against_line (NeedsLine clause) = false
 is_against_line (AgainstLine class) = true
 is_against_line (EndLine classes members) = false
 
--- a clause has a line for each class that has it, and a conflict has one line, with its lesser class
-pub record AreCounted (format : ℕ) (R : Repository) (members : List Member) (held : List ℕ) : Type 0 where
-  pub clauses : count_by is_needs_line (kernel_lines format R members held) ≡ sum_by (λ n. length (clauses_of R n)) (numbers (length R.clauses) 0)
-  pub conflicts : count_by is_against_line (kernel_lines format R members held) ≡ sum_by (λ n. length (greater_conflicts R n)) (numbers (length R.clauses) 0)
+-- a clause has a line for each class that has it, and a conflict has one line, with its lesser
+-- class
+pub record AreCounted (format : ℕ) (R : Repository) (members : List Member)
+    (held : List ℕ) : Type 0 where
+  pub clauses : count_by is_needs_line (kernel_lines format R members held)
+      ≡ sum_by (λ n. length (clauses_of R n)) (numbers (length R.clauses) 0)
+  pub conflicts : count_by is_against_line (kernel_lines format R members held)
+      ≡ sum_by (λ n. length (greater_conflicts R n)) (numbers (length R.clauses) 0)
 
 abbrev pub LinesAreCounted : Type 0
-LinesAreCounted = (format : ℕ) (R : Repository) (members : List Member) (held : List ℕ) → AreCounted format R members held
+LinesAreCounted = (format : ℕ) (R : Repository) (members : List Member) (held : List ℕ) →
+    AreCounted format R members held

@@ -21,12 +21,14 @@ pub record ServesStored (kernel : KernelContent) (goals : List Goal) (I : NumSet
   pub healthy : Healthy kernel.repository I
   pub each : (goal : Goal) → In goal goals → HasClassFor kernel.members I goal
 
--- goals are co-installable in a kernel where some set of classes serves them
+-- goals are co-installable in a kernel if some set of classes serves them
 pub record CoinstStored (kernel : KernelContent) (goals : List Goal) : Type 0 where
   pub whole : NumSet
   pub serves : ServesStored kernel goals whole
 
--- a healthy set serves goals exactly where it hits the classes that each of them names
+-- a healthy set serves goals exactly if it hits the classes that each of them names
 abbrev pub ImagesServe : Type 0
-ImagesServe = (kernel : KernelContent) → IsWritable kernel.format kernel.repository kernel.members kernel.held → (goals : List Goal) (I : NumSet) → Healthy kernel.repository I →
+ImagesServe = (kernel : KernelContent) →
+    IsWritable kernel.format kernel.repository kernel.members kernel.held →
+    (goals : List Goal) (I : NumSet) → Healthy kernel.repository I →
     (ServesStored kernel goals I ↔ HitsAll I (images_in kernel goals))

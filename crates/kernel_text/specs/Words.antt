@@ -1,5 +1,5 @@
 -- for the bodies of this crate alone
--- The words of a line: its first, and what stands behind the space that follows it.
+-- The words of a line: its first, and what follows the space after it.
 use Rattle.std.specs.{Prelude.{◌≡◌, ℕ, ◌<◌, Bool, true, not, ◌==◌, List, [], ◌∷◌, ◌++◌, codes, Option, Some, None}, Fmt.{decimal}, List.{flat_map, list_all}}
 use Rattle.listed.specs.Lists.{In}
 use Rattle.kernel_text.specs.declared.content.LineContent.{LineContent}
@@ -7,7 +7,7 @@ use Rattle.kernel_text.specs.declared.content.LineContent.TheVariants.{Head, Cla
 use Rattle.kernel_text.specs.KernelLines.{KernelLine, HeadLine, ClassLine, MemberLine, HeldLine, NeedsLine, AgainstLine, EndLine, behind_space, line_text}
 use Rattle.kernel_text.specs.Reading.{IsFormat, IsNamed, number_limit}
 
--- behind a word there is nothing, or a space and the rest
+-- after a word there is nothing, or a space and the rest
 abbrev pub behind_word : Option (List ℕ) → List ℕ
 behind_word None = []
 behind_word (Some rest) = 32 ∷ rest
@@ -45,7 +45,8 @@ other_words (NeedsLine clause) = numbers_text clause
 other_words (AgainstLine m) = Some (decimal m)
 other_words (EndLine classes members) = Some (decimal classes ++ 32 ∷ decimal members)
 
--- its format is one, its numbers are below the limit, and its name and its version are such
+-- its format is one of the two, its numbers are below the limit, and its name and its version are
+-- such
 abbrev pub IsWellFormed : KernelLine → Type 0
 IsWellFormed (HeadLine format) = IsFormat format
 IsWellFormed (ClassLine n) = n < number_limit
@@ -68,15 +69,20 @@ line_of_content (End classes members) = EndLine classes members
 -- the words are those of the line that was read, or of none
 abbrev pub WordsAreRead : List ℕ → Option (List ℕ) → Option LineContent → Type 0
 WordsAreRead word rest (Some content) =
-    (word ≡ first_word (line_of_content content)) × (rest ≡ other_words (line_of_content content)) × IsWellFormed (line_of_content content)
-WordsAreRead word rest None = (line : KernelLine) → word ≡ first_word line → rest ≡ other_words line → IsWellFormed line → ⊥
+    (word ≡ first_word (line_of_content content)) × (rest ≡ other_words (line_of_content content))
+    × IsWellFormed (line_of_content content)
+WordsAreRead word rest None = (line : KernelLine) → word ≡ first_word line →
+    rest ≡ other_words line → IsWellFormed line → ⊥
 
--- the same of the whole line
+-- the whole line is that of what was read, or of nothing
 abbrev pub LineIsRead : List ℕ → Option LineContent → Type 0
-LineIsRead text (Some content) = (text ≡ line_text (line_of_content content)) × IsWellFormed (line_of_content content)
+LineIsRead text (Some content) =
+    (text ≡ line_text (line_of_content content)) × IsWellFormed (line_of_content content)
 LineIsRead text None = (line : KernelLine) → text ≡ line_text line → IsWellFormed line → ⊥
 
--- all numbers behind the first word, or that it is something else
+-- the numbers after the first word, or that something else follows it
 abbrev pub NumbersRead : Option (List ℕ) → Option (List ℕ) → Type 0
-NumbersRead rest (Some clause) = (rest ≡ numbers_text clause) × ((l : ℕ) → In l clause → l < number_limit)
-NumbersRead rest None = (clause : List ℕ) → rest ≡ numbers_text clause → ((l : ℕ) → In l clause → l < number_limit) → ⊥
+NumbersRead rest (Some clause) =
+    (rest ≡ numbers_text clause) × ((l : ℕ) → In l clause → l < number_limit)
+NumbersRead rest None = (clause : List ℕ) → rest ≡ numbers_text clause →
+    ((l : ℕ) → In l clause → l < number_limit) → ⊥

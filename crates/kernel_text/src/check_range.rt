@@ -5,9 +5,10 @@ ghost use Rattle.kernel_text.specs.{Reader.{entry_of, RangeIsTold}, Reading.{Rea
 use crate::reader::Clause;
 use row_book::Pair;
 
-/// Whether each number of a clause and each conflicting number is one of so many classes.
+/// Whether each number of a clause and each conflicting number is one of a class.
 pub(crate) fn is_in_range(clauses: &[Clause], pairs: &[Pair], classes: u32) -> bool
-    ensures { (t : Reading) → map entry_of clauses.now ≡ t.clauses → pairs.now ≡ t.conflicts → classes ≡ t.classes → RangeIsTold t result }
+    ensures { (t : Reading) → map entry_of clauses.now ≡ t.clauses → pairs.now ≡ t.conflicts →
+        classes ≡ t.classes → RangeIsTold t result }
 {
     if !are_clauses_below(clauses, classes) {
         return false;
@@ -17,7 +18,8 @@ pub(crate) fn is_in_range(clauses: &[Clause], pairs: &[Pair], classes: u32) -> b
 
 // Whether the numbers of each clause are below the limit.
 fn are_clauses_below(clauses: &[Clause], limit: u32) -> bool
-    ensures { result ≡ list_all (λ clause. list_all (λ n. nat_lt n limit) clause.numbers) clauses.now }
+    ensures { result
+        ≡ list_all (λ clause. list_all (λ n. nat_lt n limit) clause.numbers) clauses.now }
 {
     clauses
         .iter()

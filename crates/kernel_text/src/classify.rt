@@ -9,7 +9,7 @@ use clause_pool::NumList;
 use listed::empty_lists;
 use std::alloc::{AllocError, Global};
 
-/// For each of so many classes the numbers of its packages, ascending: each package is looked at once.
+/// For each class the numbers of its packages, ascending. Each package is looked at once.
 pub(crate) fn packages_by_class(
     alloc: Global,
     class_of: &[u32],
@@ -26,10 +26,11 @@ pub(crate) fn packages_by_class(
     Ok(table)
 }
 
-/// Puts a number behind the list of a class.
+/// Appends a number to the list of a class.
 fn enter(table: &mut Vec<NumList>, class: u32, number: u32) -> Result<(), AllocError>
     requires { class < length table.old.items }
-    ensures { OnOk result (table.new.items ≡ slice_set table.old.items class (listed_for table.old.items class ++ number ∷ [])) }
+    ensures { OnOk result (table.new.items
+        ≡ slice_set table.old.items class (listed_for table.old.items class ++ number ∷ [])) }
 {
     let list = &mut table[class as usize];
     list.push(number)

@@ -9,8 +9,8 @@ use crate::line_end::line_end;
 use crate::read_line::read_line;
 use std::alloc::{AllocError, Global};
 
-/// The first line, counted from 1, with a number that is not one of so many classes, where there is one. The lines are read
-/// anew, since nothing else asks for their places.
+/// The first line, counted from 1, with a number that is not one of a class, if there is one. The
+/// lines are read anew, since nothing else asks for their places.
 pub(crate) fn first_stray(
     alloc: Global,
     bytes: &[u8],
@@ -32,7 +32,7 @@ pub(crate) fn first_stray(
     Ok(None)
 }
 
-// Whether the line has a number that is not one of so many classes.
+// Whether the line has a number that is not one of a class.
 fn is_stray(alloc: Global, line: &[u8], classes: u32) -> Result<bool, AllocError>
     ensures { IfOk result (λ found. found ≡ strays classes line.now) }
 {
@@ -42,7 +42,7 @@ fn is_stray(alloc: Global, line: &[u8], classes: u32) -> Result<bool, AllocError
     }
 }
 
-// The same of what the line says.
+// Whether what the line says has a number that is not one of a class.
 fn has_stray(content: &LineContent, classes: u32) -> bool
     ensures { result ≡ strays_by classes (line_of_content content.now) }
 {

@@ -11,7 +11,7 @@ pub(crate) fn format_of(hold: bool) -> u32
     if hold { 2 } else { 1 }
 }
 
-/// For each of so many classes whether it is one of the held: each of these is looked at once.
+/// For each class whether it is one of the held. Each of these is looked at once.
 pub(crate) fn held_flags(alloc: Global, held: &[u32], size: u32) -> Result<Vec<bool>, AllocError>
     ensures { IfOk result (λ flags. TellHeld flags.items held.now size) }
 {
@@ -30,7 +30,7 @@ fn mark_held(flags: &mut Vec<bool>, held: &[u32])
     }
 }
 
-// Sets the flag of a class, where it has one.
+// Sets the flag of a class, if it has one.
 fn mark(flags: &mut Vec<bool>, class: u32)
     ensures { flags.new.items ≡ slice_set flags.old.items class true }
 {

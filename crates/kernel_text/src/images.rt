@@ -1,7 +1,7 @@
 //! The classes of a stored kernel that goals name.
 ghost use Rattle.std.specs.Prelude.{◌≡◌, ◌<◌, ◌↔◌, ℕ, None, IfOk, IfErr, length, map};
 ghost use Rattle.listed.specs.Lists.{Ascending, In};
-ghost use Rattle.kernel_text.specs.{declared.member.Member.{Member}, Images.{class_at, image_of, is_named_by, Refuses, unknown_goal}};
+ghost use Rattle.kernel_text.specs.{declared.member.Member.{Member}, Images.{class_at, image_of, is_named_by, NamesTheUnknown, unknown_goal}};
 ghost use Rattle.kernel_text.specs.Members.{IsMemberRegister};
 ghost use Rattle.package_register.specs.Numbers.{numbers_where};
 
@@ -34,12 +34,13 @@ impl From<AllocError> for ImageError {
 }
 
 impl StoredKernel {
-    /// For each goal the classes with a package that it names, ascending; it is refused exactly where a goal names no
-    /// package, by the first such goal.
+    /// For each goal the classes with a package that it names, ascending. It is refused exactly if
+    /// some goal names no package, by the first such goal.
     pub fn images(&self, alloc: Global, goals: &[Goal]) -> Result<Needs, ImageError>
-        ensures images { IfOk result (λ needs. needs ≡ map (image_of self.now.members (length self.now.book.rows)) goals.now) }
+        ensures images { IfOk result (λ needs. needs
+            ≡ map (image_of self.now.members (length self.now.book.rows)) goals.now) }
         ensures known { IfOk result (λ _. unknown_goal self.now.members goals.now ≡ None) }
-        ensures unknown { IfErr result (Refuses (unknown_goal self.now.members goals.now)) }
+        ensures unknown { IfErr result (NamesTheUnknown (unknown_goal self.now.members goals.now)) }
     {
         let members = self.members.as_slice();
         let mut needs = Needs::new(alloc);
@@ -57,7 +58,8 @@ impl StoredKernel {
     }
 }
 
-// The classes with a package that the goal names, ascending, whatever the number of all classes.
+// The classes with a package that the goal names, ascending. They do not depend on the number of
+// all classes.
 fn image_of(
     alloc: Global,
     register: &Register,
@@ -65,7 +67,8 @@ fn image_of(
     goal: &Goal,
 ) -> Result<Vec<u32>, AllocError>
     requires { IsMemberRegister members.now register.now }
-    ensures { (size : ℕ) → ((m : Member) → In m members.now → m.class < size) → IfOk result (λ image. image.items ≡ image_of members.now size goal.now) }
+    ensures { (size : ℕ) → ((m : Member) → In m members.now → m.class < size) →
+        IfOk result (λ image. image.items ≡ image_of members.now size goal.now) }
 {
     let chosen = chosen_by(alloc, register, members, goal)?;
     let mut classes = classes_of(alloc, members, &chosen)?;
@@ -81,7 +84,8 @@ fn chosen_by(
     goal: &Goal,
 ) -> Result<Vec<u32>, AllocError>
     requires { IsMemberRegister members.now register.now }
-    ensures { IfOk result (λ chosen. chosen.items ≡ numbers_where (is_named_by goal.now) members.now) }
+    ensures { IfOk result (λ chosen. chosen.items
+        ≡ numbers_where (is_named_by goal.now) members.now) }
 {
     let name = goal.name.as_slice();
     match &goal.version {

@@ -1,5 +1,5 @@
-//! The text of a kernel, formats 1 and 2: how it is written, and the grammar by which it is read. The functions of `laws` do
-//! nothing, the contract of each is one law.
+//! The text of a kernel, formats 1 and 2: how it is written, and the grammar by which it is read.
+//! The functions of `laws` do nothing: the contract of each is one law.
 #![tactic(auto)]
 
 mod build_book;

@@ -5,11 +5,13 @@ ghost use Rattle.repo_model.specs.Limits.{most_bytes};
 
 use memchr::memchr;
 
-/// Where the line that begins at `from` ends: behind its line feed, or at the end of the text.
+/// The end of the line that begins at `from`: the place after its line feed, or the end of the
+/// text.
 pub(crate) fn line_end(bytes: &[u8], from: usize) -> usize
     requires inside { from < length bytes.now }
     requires few { length bytes.now ≤ most_bytes }
-    ensures cut { lines_of (drop from bytes.now) ≡ take (result - from) (drop from bytes.now) ∷ lines_of (drop result bytes.now) }
+    ensures cut { lines_of (drop from bytes.now)
+        ≡ take (result - from) (drop from bytes.now) ∷ lines_of (drop result bytes.now) }
     ensures further { from < result }
     ensures within { result ≤ length bytes.now }
 {

@@ -1,4 +1,4 @@
-//! The lines of a kernel text, put behind a text one by one.
+//! The lines of a kernel text, which are appended to a text one by one.
 ghost use Rattle.std.specs.{Prelude.{◌≡◌, ◌++◌, ◌<◌, ℕ, ltb, OnOk, filter, length}, Fmt.{decimal}, List.{flat_map}};
 ghost use Rattle.clause_pool.specs.Interned.{clauses_at, OfPool};
 ghost use Rattle.listed.specs.Lists.{In};
@@ -11,7 +11,7 @@ use itoa::Buffer;
 use relation_fields::PackageFacts;
 use std::alloc::AllocError;
 
-// Puts a number behind the text, in decimal digits, behind a space.
+// Appends a space and a number, in decimal digits.
 #[tactic(auto, using(std::proofs::Common::append_assoc))]
 fn push_number(out: &mut Vec<u8>, number: u32) -> Result<(), AllocError>
     ensures { OnOk result (out.new.items ≡ out.old.items ++ behind_space number) }
@@ -21,7 +21,7 @@ fn push_number(out: &mut Vec<u8>, number: u32) -> Result<(), AllocError>
     out.extend_from_slice(buffer.format(number).as_bytes())
 }
 
-// Puts numbers behind the text.
+// Appends numbers, each after a space.
 fn push_numbers(out: &mut Vec<u8>, numbers: &[u32]) -> Result<(), AllocError>
     ensures { OnOk result (out.new.items ≡ out.old.items ++ flat_map behind_space numbers.now) }
 {
@@ -31,7 +31,7 @@ fn push_numbers(out: &mut Vec<u8>, numbers: &[u32]) -> Result<(), AllocError>
     Ok(())
 }
 
-/// Puts the first line of the format behind the text.
+/// Appends the first line of the format.
 #[tactic(auto, using(std::proofs::Common::append_assoc), unfolding(crate::specs::KernelLines::line_text))]
 pub(crate) fn push_head(out: &mut Vec<u8>, format: u32) -> Result<(), AllocError>
     ensures { OnOk result (out.new.items ≡ out.old.items ++ line_text (HeadLine format)) }
@@ -41,7 +41,7 @@ pub(crate) fn push_head(out: &mut Vec<u8>, format: u32) -> Result<(), AllocError
     out.extend_from_slice(b"\n")
 }
 
-/// Puts the line that begins a class behind the text.
+/// Appends the line that begins a class.
 #[tactic(auto, using(std::proofs::Common::append_assoc), unfolding(crate::specs::KernelLines::line_text))]
 pub(crate) fn push_class_line(out: &mut Vec<u8>, number: u32) -> Result<(), AllocError>
     ensures { OnOk result (out.new.items ≡ out.old.items ++ line_text (ClassLine number)) }
@@ -51,14 +51,15 @@ pub(crate) fn push_class_line(out: &mut Vec<u8>, number: u32) -> Result<(), Allo
     out.extend_from_slice(b"\n")
 }
 
-/// Puts the lines of the packages with these numbers behind the text.
+/// Appends the lines of the packages with these numbers.
 pub(crate) fn push_member_lines(
     out: &mut Vec<u8>,
     packages: &[PackageFacts],
     members: &[u32],
 ) -> Result<(), AllocError>
     requires { (i : ℕ) → In i members.now → i < length packages.now }
-    ensures { OnOk result (out.new.items ≡ out.old.items ++ lines_text (λ i. line_of_package (stanza_at packages.now i)) members.now) }
+    ensures { OnOk result (out.new.items ≡ out.old.items
+        ++ lines_text (λ i. line_of_package (stanza_at packages.now i)) members.now) }
 {
     for member in members {
         push_member_line(out, &packages[*member as usize])?;
@@ -66,10 +67,11 @@ pub(crate) fn push_member_lines(
     Ok(())
 }
 
-// Puts the line of a member behind the text.
+// Appends the line of a member.
 #[tactic(auto, using(std::proofs::Common::append_assoc), unfolding(crate::specs::KernelLines::line_text))]
 fn push_member_line(out: &mut Vec<u8>, member: &PackageFacts) -> Result<(), AllocError>
-    ensures { OnOk result (out.new.items ≡ out.old.items ++ line_text (line_of_package member.now)) }
+    ensures { OnOk result (out.new.items
+        ≡ out.old.items ++ line_text (line_of_package member.now)) }
 {
     out.extend_from_slice(b"member ")?;
     out.extend_from_slice(member.name.as_slice())?;
@@ -78,7 +80,7 @@ fn push_member_line(out: &mut Vec<u8>, member: &PackageFacts) -> Result<(), Allo
     out.extend_from_slice(b"\n")
 }
 
-/// Puts the line of a held class behind the text, where the class is held.
+/// Appends the line of a held class, if the class is held.
 #[tactic(auto, unfolding(crate::specs::KernelLines::line_text))]
 pub(crate) fn push_held_line(out: &mut Vec<u8>, held: bool) -> Result<(), AllocError>
     ensures { OnOk result (out.new.items ≡ out.old.items ++ flat_map line_text (held_lines held)) }
@@ -90,14 +92,15 @@ pub(crate) fn push_held_line(out: &mut Vec<u8>, held: bool) -> Result<(), AllocE
     }
 }
 
-/// Puts the lines of the clauses with these ids behind the text.
+/// Appends the lines of the clauses with these ids.
 pub(crate) fn push_needs_lines(
     out: &mut Vec<u8>,
     pool: &Pool,
     ids: &[ClauseId],
 ) -> Result<(), AllocError>
     requires { OfPool pool.now ids.now }
-    ensures { OnOk result (out.new.items ≡ out.old.items ++ lines_text NeedsLine (clauses_at pool.now ids.now)) }
+    ensures { OnOk result (out.new.items
+        ≡ out.old.items ++ lines_text NeedsLine (clauses_at pool.now ids.now)) }
 {
     for id in ids {
         push_needs_line(out, pool.slice(*id))?;
@@ -105,7 +108,7 @@ pub(crate) fn push_needs_lines(
     Ok(())
 }
 
-// Puts the line of a clause behind the text.
+// Appends the line of a clause.
 #[tactic(auto, using(std::proofs::Common::append_assoc), unfolding(crate::specs::KernelLines::line_text))]
 fn push_needs_line(out: &mut Vec<u8>, clause: &[u32]) -> Result<(), AllocError>
     ensures { OnOk result (out.new.items ≡ out.old.items ++ line_text (NeedsLine clause.now)) }
@@ -115,13 +118,14 @@ fn push_needs_line(out: &mut Vec<u8>, clause: &[u32]) -> Result<(), AllocError>
     out.extend_from_slice(b"\n")
 }
 
-/// Puts the lines of the conflicts with greater classes behind the text.
+/// Appends the lines of the conflicts with greater classes.
 pub(crate) fn push_against_lines(
     out: &mut Vec<u8>,
     number: u32,
     conflicts: &[u32],
 ) -> Result<(), AllocError>
-    ensures { OnOk result (out.new.items ≡ out.old.items ++ lines_text AgainstLine (filter (λ m. ltb number m) conflicts.now)) }
+    ensures { OnOk result (out.new.items
+        ≡ out.old.items ++ lines_text AgainstLine (filter (λ m. ltb number m) conflicts.now)) }
 {
     for class in conflicts {
         if number < *class {
@@ -131,7 +135,7 @@ pub(crate) fn push_against_lines(
     Ok(())
 }
 
-// Puts the line of a conflict behind the text.
+// Appends the line of a conflict.
 #[tactic(auto, using(std::proofs::Common::append_assoc), unfolding(crate::specs::KernelLines::line_text))]
 fn push_against_line(out: &mut Vec<u8>, class: u32) -> Result<(), AllocError>
     ensures { OnOk result (out.new.items ≡ out.old.items ++ line_text (AgainstLine class)) }
@@ -141,7 +145,7 @@ fn push_against_line(out: &mut Vec<u8>, class: u32) -> Result<(), AllocError>
     out.extend_from_slice(b"\n")
 }
 
-/// Puts the end line behind the text.
+/// Appends the end line.
 #[tactic(auto, using(std::proofs::Common::append_assoc), unfolding(crate::specs::KernelLines::line_text))]
 pub(crate) fn push_end(out: &mut Vec<u8>, classes: u32, members: u32) -> Result<(), AllocError>
     ensures { OnOk result (out.new.items ≡ out.old.items ++ line_text (EndLine classes members)) }

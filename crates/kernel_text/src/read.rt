@@ -1,6 +1,6 @@
 //! Reading the lines of a kernel text.
 ghost use Rattle.std.specs.Prelude.{◌≡◌, ℕ, ◌≤◌, IfOk, IfErr, OnOk, length};
-ghost use Rattle.kernel_text.specs.{KernelFaults.{IsFault}, Reader.{Holds, HoldsAll, HoldsKernel}, Reading.{empty_reading}};
+ghost use Rattle.kernel_text.specs.{KernelFaults.{IsFault}, Reader.{HoldsReading, HoldsAll, HoldsKernel}, Reading.{empty_reading}};
 ghost use Rattle.repo_model.specs.Limits.{most_bytes};
 
 use crate::check_range::is_in_range;
@@ -24,7 +24,7 @@ pub(crate) fn read_text(alloc: Global, bytes: &[u8]) -> Result<Reader, KernelFau
 // Takes all lines into a reader that has none, or finds the first fault.
 fn fill(alloc: Global, bytes: &[u8], reader: &mut Reader) -> Result<(), KernelFault>
     requires size { length bytes.now ≤ most_bytes }
-    requires none { Holds reader.old empty_reading }
+    requires none { HoldsReading reader.old empty_reading }
     ensures read { OnOk result (HoldsKernel bytes.now reader.new) }
     ensures refused { IfErr result (IsFault bytes.now) }
 {
@@ -32,10 +32,11 @@ fn fill(alloc: Global, bytes: &[u8], reader: &mut Reader) -> Result<(), KernelFa
     judge(alloc, bytes, reader)
 }
 
-// Takes all lines into a reader that has none, or finds the first that is not allowed behind those before it.
+// Takes all lines into a reader that has none, or finds the first that is not allowed after those
+// before it.
 fn add_lines(alloc: Global, bytes: &[u8], reader: &mut Reader) -> Result<(), KernelFault>
     requires size { length bytes.now ≤ most_bytes }
-    requires none { Holds reader.old empty_reading }
+    requires none { HoldsReading reader.old empty_reading }
     ensures read { OnOk result (HoldsAll bytes.now reader.new) }
     ensures refused { IfErr result (IsFault bytes.now) }
 {
@@ -52,14 +53,14 @@ fn add_lines(alloc: Global, bytes: &[u8], reader: &mut Reader) -> Result<(), Ker
     Ok(())
 }
 
-// The fault of a text whose lines are all allowed, where it has one.
+// The fault of a text whose lines are all allowed, if it has one.
 fn judge(alloc: Global, bytes: &[u8], reader: &Reader) -> Result<(), KernelFault>
     requires size { length bytes.now ≤ most_bytes }
     requires read { HoldsAll bytes.now reader.now }
     ensures read { OnOk result (HoldsKernel bytes.now reader.now) }
     ensures refused { IfErr result (IsFault bytes.now) }
 {
-    if !reader.is_ended() {
+    if !reader.is_complete() {
         return Err(KernelFault::End);
     }
     if !is_in_range(

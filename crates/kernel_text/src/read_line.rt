@@ -10,7 +10,7 @@ use deb_version::{Bytes, Version, VersionError, is_package_name};
 use memchr::memchr;
 use std::alloc::{AllocError, Global};
 
-/// What a line says, where it is one of a kernel text.
+/// What a line says, if it is one of a kernel text.
 pub(crate) fn read_line(alloc: Global, line: &[u8]) -> Result<Option<LineContent>, AllocError>
     ensures { IfOk result (LineIsRead line.now) }
 {
@@ -21,7 +21,8 @@ pub(crate) fn read_line(alloc: Global, line: &[u8]) -> Result<Option<LineContent
     read_words(alloc, word, rest)
 }
 
-// The first word of a line, and what stands behind it. Most lines are of members, of which no space is looked for.
+// The first word of a line, and what follows it. Most lines are of members, and there no space has
+// to be looked for.
 fn cut_line(body: &[u8]) -> (&[u8], Option<&[u8]>)
     ensures { IsCut body.now result.0.now (option_copied result.1) }
 {
@@ -32,7 +33,7 @@ fn cut_line(body: &[u8]) -> (&[u8], Option<&[u8]>)
     }
 }
 
-// The first word of a text, and what stands behind the space that follows it.
+// The first word of a text, and what follows the space after it.
 fn cut_at_space(text: &[u8]) -> (&[u8], Option<&[u8]>)
     ensures { IsCut text.now result.0.now (option_copied result.1) }
 {
@@ -74,9 +75,10 @@ fn read_lone(word: &[u8]) -> Option<LineContent>
     }
 }
 
-// A clause from the numbers behind its first word.
+// A clause from the numbers after its first word.
 fn read_clause(alloc: Global, rest: Option<&[u8]>) -> Result<Option<LineContent>, AllocError>
-    ensures { (word : List ℕ) → word ≡ codes "needs" → IfOk result (WordsAreRead word (option_copied rest.entry)) }
+    ensures { (word : List ℕ) → word ≡ codes "needs" →
+        IfOk result (WordsAreRead word (option_copied rest.entry)) }
 {
     match read_numbers(alloc, rest)? {
         Some(clause) => Ok(Some(LineContent::Needs { clause })),
@@ -103,7 +105,8 @@ fn read_numbers(alloc: Global, words: Option<&[u8]>) -> Result<Option<NumList>, 
 
 // A member from its name and its version.
 fn read_member(alloc: Global, rest: &[u8]) -> Result<Option<LineContent>, AllocError>
-    ensures { (word : List ℕ) → word ≡ codes "member" → IfOk result (WordsAreRead word (Some rest.now)) }
+    ensures { (word : List ℕ) → word ≡ codes "member" →
+        IfOk result (WordsAreRead word (Some rest.now)) }
 {
     let (name, behind) = cut_at_space(rest);
     let Some(version) = behind else {
@@ -119,9 +122,10 @@ fn read_member(alloc: Global, rest: &[u8]) -> Result<Option<LineContent>, AllocE
     Ok(Some(LineContent::Member { name, version }))
 }
 
-// The version, where the text is one.
+// The version, if the text is one.
 fn read_version(alloc: Global, text: &[u8]) -> Result<Option<Version>, AllocError>
-    ensures { IfOk result (λ version. MatchOption version (is_version text.now ≡ false) (λ v. (v ≡ text.now) × (is_version text.now ≡ true))) }
+    ensures { IfOk result (λ version. MatchOption version (is_version text.now ≡ false)
+        (λ v. (v ≡ text.now) × (is_version text.now ≡ true))) }
 {
     match Version::parse(alloc, text) {
         Ok(version) => Ok(Some(version)),
@@ -155,7 +159,8 @@ fn read_numbered(word: &[u8], rest: &[u8]) -> Option<LineContent>
 
 // The first line by its version of the format.
 fn read_head(rest: &[u8]) -> Option<LineContent>
-    ensures { (word : List ℕ) → word ≡ codes "coinst-kernel" → WordsAreRead word (Some rest.now) result }
+    ensures { (word : List ℕ) → word ≡ codes "coinst-kernel" →
+        WordsAreRead word (Some rest.now) result }
 {
     let Some(format) = read_number(rest) else {
         return None;

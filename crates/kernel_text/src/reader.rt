@@ -2,7 +2,7 @@
 ghost use Rattle.std.specs.Prelude.{◌≡◌, ◌<◌, ◌-◌, ℕ, true, IfOk};
 ghost use Rattle.listed.specs.Lists.{In};
 ghost use Rattle.kernel_text.specs.KernelLines.{AgainstLine, ClassLine, EndLine, HeadLine, HeldLine, MemberLine, NeedsLine};
-ghost use Rattle.kernel_text.specs.{Reader.{last_clause, Adds, Enters, Holds, Takes}, StoredReading.{is_ended}, Members.{IsMemberRegister}};
+ghost use Rattle.kernel_text.specs.{Reader.{last_clause, Adds, Enters, HoldsReading, TakesLine}, StoredReading.{is_complete}, Members.{IsMemberRegister}};
 ghost use Rattle.kernel_text.specs.Reading.{empty_reading, IsFormat, IsNamed, may_add_clause, may_add_conflict, may_add_held, may_add_member, may_begin, number_limit, Reading};
 ghost use Rattle.kernel_text.specs.Words.{IsWellFormed, line_of_content};
 
@@ -17,7 +17,7 @@ use package_register::Register;
 use row_book::{Pair, holds};
 use std::alloc::{AllocError, Global};
 
-/// What the last line says of which line may stand next.
+/// What the last line decides about the next one.
 #[derive(Clone, Copy, Debug, PartialEq, Eq)]
 pub(crate) enum LastLine {
     Nothing,
@@ -37,8 +37,9 @@ pub(crate) struct Clause {
     pub(crate) numbers: NumList,
 }
 
-/// What the lines so far say: the last of them, the format, how many classes have begun,
-/// the members with their classes and a register of them, the held classes, the clauses and the pairs of conflicting classes.
+/// What the lines so far say. The last of them decides which line may come next. Then there are the
+/// format, and how many classes have begun. There are the members with their classes and a register
+/// of them, the held classes, the clauses and the pairs of conflicting classes.
 #[derive(Drop)]
 pub(crate) struct Reader {
     pub(crate) last: LastLine,
@@ -54,7 +55,7 @@ pub(crate) struct Reader {
 impl Reader {
     /// Before the first line.
     pub(crate) fn new(alloc: Global) -> Reader
-        ensures { Holds result empty_reading }
+        ensures { HoldsReading result empty_reading }
     {
         Reader {
             last: LastLine::Nothing,
@@ -68,10 +69,10 @@ impl Reader {
         }
     }
 
-    /// Takes a line where it is allowed behind those before it.
+    /// Takes a line, if it is allowed after those before it. Returns whether it is.
     pub(crate) fn add(&mut self, alloc: Global, line: &[u8]) -> Result<bool, AllocError>
-        requires { (t : Reading) × Holds self.old t }
-        ensures { (t : Reading) → Holds self.old t → IfOk result (Adds t line.now self.new) }
+        requires { (t : Reading) × HoldsReading self.old t }
+        ensures { (t : Reading) → HoldsReading self.old t → IfOk result (Adds t line.now self.new) }
     {
         match read_line(alloc, line)? {
             Some(content) => self.take(alloc, content),
@@ -82,8 +83,9 @@ impl Reader {
     // Takes a line by what it says.
     fn take(&mut self, alloc: Global, content: LineContent) -> Result<bool, AllocError>
         requires well_formed { IsWellFormed (line_of_content content) }
-        requires holds { (t : Reading) × Holds self.old t }
-        ensures { (t : Reading) → Holds self.old t → IfOk result (Takes t (line_of_content content) self.new) }
+        requires holds { (t : Reading) × HoldsReading self.old t }
+        ensures { (t : Reading) → HoldsReading self.old t →
+            IfOk result (TakesLine t (line_of_content content) self.new) }
     {
         match content {
             LineContent::Head { format } => Ok(self.take_head(format)),
@@ -99,7 +101,8 @@ impl Reader {
     // Takes the first line.
     fn take_head(&mut self, format: u32) -> bool
         requires { IsFormat format }
-        ensures { (t : Reading) → Holds self.old t → Takes t (HeadLine format) self.new result }
+        ensures { (t : Reading) → HoldsReading self.old t →
+            TakesLine t (HeadLine format) self.new result }
     {
         match self.last {
             LastLine::Nothing => {
@@ -114,7 +117,8 @@ impl Reader {
     // Begins a class.
     fn take_class(&mut self, number: u32) -> bool
         requires { number < number_limit }
-        ensures { (t : Reading) → Holds self.old t → Takes t (ClassLine number) self.new result }
+        ensures { (t : Reading) → HoldsReading self.old t →
+            TakesLine t (ClassLine number) self.new result }
     {
         if !may_begin(self.last) {
             return false;
@@ -135,8 +139,9 @@ impl Reader {
         version: Version,
     ) -> Result<bool, AllocError>
         requires named { IsNamed name version }
-        requires holds { (t : Reading) × Holds self.old t }
-        ensures { (t : Reading) → Holds self.old t → IfOk result (Takes t (MemberLine name version) self.new) }
+        requires holds { (t : Reading) × HoldsReading self.old t }
+        ensures { (t : Reading) → HoldsReading self.old t →
+            IfOk result (TakesLine t (MemberLine name version) self.new) }
     {
         if !may_add_member(self.last) {
             return Ok(false);
@@ -159,7 +164,8 @@ impl Reader {
 
     // Takes that the class is held.
     fn take_held(&mut self) -> Result<bool, AllocError>
-        ensures { (t : Reading) → Holds self.old t → IfOk result (Takes t HeldLine self.new) }
+        ensures { (t : Reading) → HoldsReading self.old t →
+            IfOk result (TakesLine t HeldLine self.new) }
     {
         if !may_add_held(self.last) {
             return Ok(false);
@@ -176,7 +182,8 @@ impl Reader {
     // Takes a clause of the class.
     fn take_clause(&mut self, clause: NumList) -> Result<bool, AllocError>
         requires { (l : ℕ) → In l clause → l < number_limit }
-        ensures { (t : Reading) → Holds self.old t → IfOk result (Takes t (NeedsLine clause) self.new) }
+        ensures { (t : Reading) → HoldsReading self.old t →
+            IfOk result (TakesLine t (NeedsLine clause) self.new) }
     {
         let class = self.this_class();
         let numbers = clause.as_slice();
@@ -210,7 +217,8 @@ impl Reader {
     // Takes a conflict of the class.
     fn take_conflict(&mut self, class: u32) -> Result<bool, AllocError>
         requires { class < number_limit }
-        ensures { (t : Reading) → Holds self.old t → IfOk result (Takes t (AgainstLine class) self.new) }
+        ensures { (t : Reading) → HoldsReading self.old t →
+            IfOk result (TakesLine t (AgainstLine class) self.new) }
     {
         let low = self.this_class();
         if !may_add_conflict(self.last, class) {
@@ -224,7 +232,7 @@ impl Reader {
         Ok(true)
     }
 
-    // The class whose block the last line stands in.
+    // The class whose block has the last line.
     fn this_class(&self) -> u32
         ensures { result ≡ self.now.classes - 1 }
     {
@@ -235,7 +243,8 @@ impl Reader {
     fn take_end(&mut self, classes: u32, members: u32) -> bool
         requires classes { classes < number_limit }
         requires members { members < number_limit }
-        ensures { (t : Reading) → Holds self.old t → Takes t (EndLine classes members) self.new result }
+        ensures { (t : Reading) → HoldsReading self.old t →
+            TakesLine t (EndLine classes members) self.new result }
     {
         if !may_begin(self.last) {
             return false;
@@ -245,8 +254,8 @@ impl Reader {
     }
 
     /// Whether the last line is the end line with the right numbers.
-    pub(crate) fn is_ended(&self) -> bool
-        ensures { (t : Reading) → Holds self.now t → result ≡ is_ended t }
+    pub(crate) fn is_complete(&self) -> bool
+        ensures { (t : Reading) → HoldsReading self.now t → result ≡ is_complete t }
     {
         match self.last {
             LastLine::End { classes, members } => {
@@ -257,7 +266,7 @@ impl Reader {
     }
 }
 
-// Enters a member behind the others where it is new, and tells whether it is.
+// Adds a member if it is new. Returns whether it was.
 fn enter(
     alloc: Global,
     register: &mut Register,
@@ -280,7 +289,7 @@ fn enter(
     Ok(true)
 }
 
-// Whether the clause may stand next, where the previous one is given.
+// Whether the clause may come next, after the previous one.
 fn may_add_clause(last: LastLine, previous: &[u32], clause: &[u32]) -> bool
     ensures { result ≡ may_add_clause last previous.now clause.now }
 {
@@ -291,7 +300,7 @@ fn may_add_clause(last: LastLine, previous: &[u32], clause: &[u32]) -> bool
     }
 }
 
-// Whether a conflict with the class may stand next.
+// Whether a conflict with the class may come next.
 fn may_add_conflict(last: LastLine, class: u32) -> bool
     ensures { result ≡ may_add_conflict last class }
 {
@@ -302,7 +311,7 @@ fn may_add_conflict(last: LastLine, class: u32) -> bool
     }
 }
 
-// Whether that the class is held may stand next.
+// Whether it may come next that the class is held.
 fn may_add_held(last: LastLine) -> bool
     ensures { result ≡ may_add_held last }
 {
@@ -312,7 +321,7 @@ fn may_add_held(last: LastLine) -> bool
     }
 }
 
-// Whether a member may stand next.
+// Whether a member may come next.
 fn may_add_member(last: LastLine) -> bool
     ensures { result ≡ may_add_member last }
 {
@@ -322,7 +331,7 @@ fn may_add_member(last: LastLine) -> bool
     }
 }
 
-// Whether a block or the end line may stand next.
+// Whether a block or the end line may come next.
 fn may_begin(last: LastLine) -> bool
     ensures { result ≡ may_begin last }
 {

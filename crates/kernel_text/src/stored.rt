@@ -35,20 +35,23 @@ pub struct StoredKernel {
     // The packages by their names and versions, as they were read.
     pub(crate) register: Register,
     ghost inside: { (m : Member) → In m members → m.class < length book.rows },
-    ghost registered: { IsMemberRegister members register } by { IsMemberRegister-prop members register },
+    ghost registered: { IsMemberRegister members
+        register } by { IsMemberRegister-prop members register },
 }
 
-/// Reads the text of a kernel: its format, its classes, over the pool, their packages and the held ones, or the first fault
-/// of the text. The pool gains the rows of the classes and their clauses alone, and by a fault of the text nothing; what it had
-/// stays, also where no memory is found. A text has at most 1,073,741,824 bytes, the limit that the program keeps for files. Time
-/// is linear in the text; equal packages are found by a register.
+/// Reads the text of a kernel: its format, its classes, over the pool, their packages and the held
+/// ones, or the first fault of the text. The pool gains only the rows of the classes and their
+/// clauses, and by a fault of the text nothing. What it had stays, even if memory runs out. A text
+/// has at most 1,073,741,824 bytes, the limit that the program keeps for files. Time is linear in
+/// the text; equal packages are found by a register.
 pub fn read_kernel(
     alloc: Global,
     bytes: &[u8],
     pool: &mut Pool,
 ) -> Result<StoredKernel, KernelFault>
     requires { length bytes.now ≤ most_bytes }
-    ensures read { IfOk result (λ stored. KernelReads bytes.now stored.format (repository_of pool.new stored.book) stored.members stored.held) }
+    ensures read { IfOk result (λ stored. KernelReads bytes.now stored.format
+        (repository_of pool.new stored.book) stored.members stored.held) }
     ensures sound { IfOk result (λ stored. Sound pool.new stored.book) }
     ensures only { IfOk result (λ stored. AddsOnly pool.old pool.new stored.book.rows) }
     ensures refused { IfErr result (IsFault bytes.now) }

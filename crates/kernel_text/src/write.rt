@@ -2,7 +2,7 @@
 ghost use Rattle.std.specs.{Prelude.{◌≡◌, ◌++◌, ◌≤◌, ◌<◌, ℕ, List, IfOk, OnOk, length}, List.{flat_map}};
 ghost use Rattle.row_book.specs.{Book.{repository_of, Sound}, Numbers.{numbers}, Flags.{flag}};
 ghost use Rattle.listed.specs.Lists.{In};
-ghost use Rattle.kernel_text.specs.{KernelText.{format_of, kernel_text}, Members.{kernel_members}, Writing.{block_text, OfPackages, TellHeld}};
+ghost use Rattle.kernel_text.specs.{KernelText.{format_of, kernel_text}, Members.{kernel_members}, Writing.{block_text, NumbersPackages, TellHeld}};
 
 use crate::classify::packages_by_class;
 use crate::holding::{format_of, held_flags};
@@ -17,9 +17,9 @@ use repo_model::Suite;
 use row_book::Book;
 use std::alloc::{AllocError, Global};
 
-/// The text of a kernel of the suite's book, in which each package of the suite is a member of its class, in file order. It
-/// is of format 2 where classes may be held, else of format 1. It fails only where no memory is found. Time is linear in the
-/// packages, the classes and the text.
+/// The text of a kernel of the suite's book, in which each package of the suite is a member of its
+/// class, in file order. It is of format 2 if classes may be held, else of format 1. Time is linear
+/// in the packages, the classes and the text.
 pub fn write_kernel(
     alloc: Global,
     pool: &Pool,
@@ -28,9 +28,12 @@ pub fn write_kernel(
 ) -> Result<Vec<u8>, AllocError>
     requires sound { Sound pool.now kernel.now.book }
     requires each { length kernel.now.class_of ≡ length suite.now.packages }
-    requires inside { (class : ℕ) → In class kernel.now.class_of → class < length kernel.now.book.rows }
-    ensures { IfOk result (λ text. text.items ≡ kernel_text (format_of kernel.now.hold) (repository_of pool.now kernel.now.book)
-        (kernel_members suite.now.packages kernel.now.class_of (length kernel.now.book.rows)) kernel.now.held) }
+    requires inside { (class : ℕ) → In class kernel.now.class_of →
+        class < length kernel.now.book.rows }
+    ensures { IfOk result (λ text. text.items
+        ≡ kernel_text (format_of kernel.now.hold) (repository_of pool.now kernel.now.book)
+        (kernel_members suite.now.packages kernel.now.class_of
+        (length kernel.now.book.rows)) kernel.now.held) }
 {
     let flags = held_flags(alloc, kernel.held.as_slice(), kernel.book.size())?;
     write_classes(
@@ -71,7 +74,7 @@ fn write_classes(
     Ok(text)
 }
 
-// Puts the blocks of all classes behind the text.
+// Appends the blocks of all classes.
 fn push_classes(
     out: &mut Vec<u8>,
     packages: &[PackageFacts],
@@ -82,10 +85,12 @@ fn push_classes(
 ) -> Result<(), AllocError>
     requires size { length by_class.now ≡ length book.now.rows }
     requires flags { length flags.now ≡ length book.now.rows }
-    requires members { OfPackages by_class.now packages.now }
+    requires members { NumbersPackages by_class.now packages.now }
     requires sound { Sound pool.now book.now }
     ensures { OnOk result (out.new.items ≡ out.old.items
-        ++ flat_map (λ n. block_text (repository_of pool.now book.now) packages.now by_class.now (flag flags.now n) n) (numbers (length book.now.rows) 0)) }
+        ++ flat_map (λ n. block_text (repository_of pool.now book.now)
+        packages.now by_class.now (flag flags.now n) n)
+        (numbers (length book.now.rows) 0)) }
 {
     for number in 0..book.size() {
         push_class(
@@ -101,7 +106,7 @@ fn push_classes(
     Ok(())
 }
 
-// Puts the block of the class with the number behind the text.
+// Appends the block of the class with the number.
 fn push_class(
     out: &mut Vec<u8>,
     packages: &[PackageFacts],
@@ -113,7 +118,7 @@ fn push_class(
 ) -> Result<(), AllocError>
     requires inside { number < length book.now.rows }
     requires size { length by_class.now ≡ length book.now.rows }
-    requires members { OfPackages by_class.now packages.now }
+    requires members { NumbersPackages by_class.now packages.now }
     requires sound { Sound pool.now book.now }
     ensures { OnOk result (out.new.items ≡ out.old.items
         ++ block_text (repository_of pool.now book.now) packages.now by_class.now held number) }

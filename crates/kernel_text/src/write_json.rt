@@ -8,7 +8,7 @@ ghost use Rattle.listed.specs.Lists.{In};
 ghost use Rattle.serde_json.specs.Data.{string, put as with_member};
 ghost use Rattle.serde_json.specs.{View.{view, members_view}, Written.{compact_text}};
 ghost use Rattle.kernel_text.specs.JsonData.{clauses_data, data_of_class, kernel_data, mark_of_class, number_data, numbers_data, package_data, packages_data, with_told};
-ghost use Rattle.kernel_text.specs.{KernelJson.{kernel_json}, KernelText.{format_of}, Members.{kernel_members}, Writing.{OfPackages}};
+ghost use Rattle.kernel_text.specs.{KernelJson.{kernel_json}, KernelText.{format_of}, Members.{kernel_members}, Writing.{NumbersPackages}};
 
 use crate::classify::packages_by_class;
 use crate::holding::{format_of, held_flags};
@@ -20,9 +20,9 @@ use row_book::Book;
 use serde_json::{Map, Value, json, put};
 use std::alloc::{AllocError, Global};
 
-/// The JSON of a kernel of the suite's book, in which each package of the suite is a member of its class, in file order. It
-/// is of format 2 where classes may be held, else of format 1. It fails only where no memory is found. Time is linear in the
-/// packages, the classes and the text.
+/// The JSON of a kernel of the suite's book, in which each package of the suite is a member of its
+/// class, in file order. It is of format 2 if classes may be held, else of format 1. Time is linear
+/// in the packages, the classes and the text.
 pub fn kernel_json(
     alloc: Global,
     pool: &Pool,
@@ -31,10 +31,13 @@ pub fn kernel_json(
 ) -> Result<Vec<u8>, AllocError>
     requires sound { Sound pool.now kernel.now.book }
     requires each { length kernel.now.class_of ≡ length suite.now.packages }
-    requires inside { (class : ℕ) → In class kernel.now.class_of → class < length kernel.now.book.rows }
+    requires inside { (class : ℕ) → In class kernel.now.class_of →
+        class < length kernel.now.book.rows }
     requires named { AreNamedPackages suite.now.packages }
-    ensures { IfOk result (λ text. text.items ≡ kernel_json (format_of kernel.now.hold) (repository_of pool.now kernel.now.book)
-        (kernel_members suite.now.packages kernel.now.class_of (length kernel.now.book.rows)) kernel.now.held) }
+    ensures { IfOk result (λ text. text.items
+        ≡ kernel_json (format_of kernel.now.hold) (repository_of pool.now kernel.now.book)
+        (kernel_members suite.now.packages kernel.now.class_of
+        (length kernel.now.book.rows)) kernel.now.held) }
 {
     let packages = suite.packages.as_slice();
     let by_class = packages_by_class(alloc, kernel.class_of.as_slice(), kernel.book.size())?;
@@ -61,12 +64,13 @@ fn document_text(
     hold: bool,
 ) -> Result<Vec<u8>, AllocError>
     requires size { length by_class.now ≡ length book.now.rows }
-    requires members { OfPackages by_class.now packages.now }
+    requires members { NumbersPackages by_class.now packages.now }
     requires named { AreNamedPackages packages.now }
     requires sound { Sound pool.now book.now }
     requires flags { length flags.now ≡ length book.now.rows }
     ensures { IfOk result (λ text. text.items
-        ≡ compact_text (kernel_data hold (repository_of pool.now book.now) packages.now by_class.now flags.now (length book.now.rows)) ++ codes "\n") }
+        ≡ compact_text (kernel_data hold (repository_of pool.now book.now) packages.now by_class.now
+        flags.now (length book.now.rows)) ++ codes "\n") }
 {
     let document = document(alloc, packages, by_class, pool, book, flags, hold)?;
     let mut text = document.to_vec(alloc)?;
@@ -85,11 +89,12 @@ fn document(
     hold: bool,
 ) -> Result<Value, AllocError>
     requires size { length by_class.now ≡ length book.now.rows }
-    requires members { OfPackages by_class.now packages.now }
+    requires members { NumbersPackages by_class.now packages.now }
     requires named { AreNamedPackages packages.now }
     requires sound { Sound pool.now book.now }
     requires flags { length flags.now ≡ length book.now.rows }
-    ensures { IfOk result (λ value. view value ≡ kernel_data hold (repository_of pool.now book.now) packages.now by_class.now flags.now (length book.now.rows)) }
+    ensures { IfOk result (λ value. view value ≡ kernel_data hold (repository_of pool.now book.now)
+        packages.now by_class.now flags.now (length book.now.rows)) }
 {
     let mut items = Vec::new(alloc);
     for number in 0..book.size() {
@@ -100,7 +105,7 @@ fn document(
     json!(in alloc; {"classes": classes, "format": format_of(hold)})
 }
 
-// Whether a class is held, where classes may be.
+// Whether a class is held, if classes may be.
 fn mark_of(hold: bool, flags: &[bool], number: u32) -> Option<bool>
     requires { number < length flags.now }
     ensures { result ≡ mark_of_class hold flags.now number }
@@ -112,7 +117,8 @@ fn mark_of(hold: bool, flags: &[bool], number: u32) -> Option<bool>
     }
 }
 
-// A class: the greater classes that it conflicts with, whether it is held, where that is told, its packages and its clauses.
+// A class: the greater classes that it conflicts with, whether it is held, if that is said, its
+// packages and its clauses.
 fn class_value(
     alloc: Global,
     packages: &[PackageFacts],
@@ -124,10 +130,11 @@ fn class_value(
 ) -> Result<Value, AllocError>
     requires inside { number < length book.now.rows }
     requires size { length by_class.now ≡ length book.now.rows }
-    requires members { OfPackages by_class.now packages.now }
+    requires members { NumbersPackages by_class.now packages.now }
     requires named { AreNamedPackages packages.now }
     requires sound { Sound pool.now book.now }
-    ensures { IfOk result (λ value. view value ≡ data_of_class (repository_of pool.now book.now) packages.now by_class.now mark number) }
+    ensures { IfOk result (λ value. view value
+        ≡ data_of_class (repository_of pool.now book.now) packages.now by_class.now mark number) }
 {
     let mut class = Map::new(alloc);
     put_against(&mut class, alloc, number, book.against(number))?;
@@ -142,7 +149,7 @@ fn class_value(
     Ok(Value::Object(class))
 }
 
-// Puts the conflicts with greater classes into an object.
+// Adds the conflicts with greater classes to an object.
 fn put_against(
     class: &mut Map<String, Value>,
     alloc: Global,
@@ -150,19 +157,21 @@ fn put_against(
     conflicts: &[u32],
 ) -> Result<(), AllocError>
     ensures { OnOk result (members_view class.new.entries
-        ≡ with_member (codes "against") (numbers_data (filter (λ m. ltb number m) conflicts.now)) (members_view class.old.entries)) }
+        ≡ with_member (codes "against") (numbers_data (filter (λ m. ltb number m) conflicts.now))
+        (members_view class.old.entries)) }
 {
     let against = against_value(alloc, number, conflicts)?;
     put(class, alloc, "against", against)
 }
 
-// Puts whether the class is held into an object, where that is told.
+// Adds to an object whether the class is held, if that is said.
 fn put_mark(
     class: &mut Map<String, Value>,
     alloc: Global,
     mark: Option<bool>,
 ) -> Result<(), AllocError>
-    ensures { OnOk result (members_view class.new.entries ≡ with_told mark (members_view class.old.entries)) }
+    ensures { OnOk result (members_view class.new.entries
+        ≡ with_told mark (members_view class.old.entries)) }
 {
     match mark {
         Some(held) => put(class, alloc, "held", Value::from(held)),
@@ -170,7 +179,7 @@ fn put_mark(
     }
 }
 
-// Puts the packages with these numbers into an object.
+// Adds the packages with these numbers to an object.
 fn put_members(
     class: &mut Map<String, Value>,
     alloc: Global,
@@ -180,13 +189,14 @@ fn put_members(
     requires members { (i : ℕ) → In i members.now → i < length packages.now }
     requires named { AreNamedPackages packages.now }
     ensures { OnOk result (members_view class.new.entries
-        ≡ with_member (codes "members") (packages_data packages.now members.now) (members_view class.old.entries)) }
+        ≡ with_member (codes "members") (packages_data packages.now members.now)
+        (members_view class.old.entries)) }
 {
     let members = members_value(alloc, packages, members)?;
     put(class, alloc, "members", members)
 }
 
-// Puts the clauses with these ids into an object.
+// Adds the clauses with these ids to an object.
 fn put_needs(
     class: &mut Map<String, Value>,
     alloc: Global,
@@ -195,7 +205,8 @@ fn put_needs(
 ) -> Result<(), AllocError>
     requires { OfPool pool.now ids.now }
     ensures { OnOk result (members_view class.new.entries
-        ≡ with_member (codes "needs") (clauses_data (clauses_at pool.now ids.now)) (members_view class.old.entries)) }
+        ≡ with_member (codes "needs") (clauses_data (clauses_at pool.now ids.now))
+        (members_view class.old.entries)) }
 {
     let needs = needs_value(alloc, pool, ids)?;
     put(class, alloc, "needs", needs)
@@ -203,17 +214,19 @@ fn put_needs(
 
 // The conflicts with greater classes.
 fn against_value(alloc: Global, number: u32, conflicts: &[u32]) -> Result<Value, AllocError>
-    ensures { IfOk result (λ value. view value ≡ numbers_data (filter (λ m. ltb number m) conflicts.now)) }
+    ensures { IfOk result (λ value. view value
+        ≡ numbers_data (filter (λ m. ltb number m) conflicts.now)) }
 {
     let mut items = Vec::new(alloc);
     push_greater(&mut items, number, conflicts)?;
     Ok(Value::Array(items))
 }
 
-// Pushes the numbers that are greater than one onto an empty list.
+// Appends the numbers that are greater than one to an empty list.
 fn push_greater(items: &mut Vec<Value>, number: u32, conflicts: &[u32]) -> Result<(), AllocError>
     requires { items.old.items ≡ [] }
-    ensures { OnOk result (map view items.new.items ≡ map number_data (filter (λ m. ltb number m) conflicts.now)) }
+    ensures { OnOk result (map view items.new.items
+        ≡ map number_data (filter (λ m. ltb number m) conflicts.now)) }
 {
     for class in conflicts {
         if number < *class {
@@ -238,7 +251,7 @@ fn members_value(
     Ok(Value::Array(items))
 }
 
-// Pushes the packages with these numbers onto an empty list.
+// Appends the packages with these numbers to an empty list.
 fn push_packages(
     items: &mut Vec<Value>,
     alloc: Global,
@@ -248,7 +261,8 @@ fn push_packages(
     requires none { items.old.items ≡ [] }
     requires members { (i : ℕ) → In i members.now → i < length packages.now }
     requires named { AreNamedPackages packages.now }
-    ensures { OnOk result (map view items.new.items ≡ map (λ i. package_data (stanza_at packages.now i)) members.now) }
+    ensures { OnOk result (map view items.new.items
+        ≡ map (λ i. package_data (stanza_at packages.now i)) members.now) }
 {
     for member in members {
         items.push(package_value(alloc, &packages[*member as usize])?)?;
@@ -286,7 +300,7 @@ fn needs_value(alloc: Global, pool: &Pool, ids: &[ClauseId]) -> Result<Value, Al
     Ok(Value::Array(items))
 }
 
-// Pushes the clauses with these ids onto an empty list.
+// Appends the clauses with these ids to an empty list.
 fn push_clauses(
     items: &mut Vec<Value>,
     alloc: Global,
@@ -295,7 +309,8 @@ fn push_clauses(
 ) -> Result<(), AllocError>
     requires none { items.old.items ≡ [] }
     requires ids { OfPool pool.now ids.now }
-    ensures { OnOk result (map view items.new.items ≡ map numbers_data (clauses_at pool.now ids.now)) }
+    ensures { OnOk result (map view items.new.items
+        ≡ map numbers_data (clauses_at pool.now ids.now)) }
 {
     for id in ids {
         items.push(numbers_value(alloc, pool.slice(*id))?)?;
@@ -312,7 +327,7 @@ fn numbers_value(alloc: Global, numbers: &[u32]) -> Result<Value, AllocError>
     Ok(Value::Array(items))
 }
 
-// Pushes numbers onto an empty list.
+// Appends numbers to an empty list.
 fn push_numbers(items: &mut Vec<Value>, numbers: &[u32]) -> Result<(), AllocError>
     requires { items.old.items ≡ [] }
     ensures { OnOk result (map view items.new.items ≡ map number_data numbers.now) }

@@ -9,12 +9,12 @@ pub record Texts : Type 0 where
   pub old : List ℕ
   pub new : List ℕ
 
--- texts of which these are the suites
+-- texts whose suites these are
 pub record AreTexts (texts : Texts) (old new : Suite) : Type 0 where
   pub old_is : IsSuiteOf texts.old old.packages old.home.name
   pub new_is : IsSuiteOf texts.new new.packages new.home.name
 
--- texts of which these are the suites and the lengths
+-- texts whose suites and lengths these are
 pub record AreMeasured (texts : Texts) (old new : Suite) (lengths : TextLengths) : Type 0 where
   pub suites : AreTexts texts old new
   pub old_length_is : lengths.old ≡ length texts.old
@@ -26,4 +26,5 @@ has_arch_dependent packages = list_any (λ facts. facts.is_arch_dependent) packa
 
 -- the common architecture of a suite, if one of its packages whose flags are up has it
 abbrev pub home_where : List Bool → Suite → Option (List ℕ)
-home_where flags suite = if has_arch_dependent (items_where_true flags suite.packages) then suite.home.name else None
+home_where flags suite =
+    if has_arch_dependent (items_where_true flags suite.packages) then suite.home.name else None

@@ -10,6 +10,6 @@ pub record SaysSame (one other : PackageFacts) : Type 0 where
   pub against : one.against ≡ other.against
   pub provides : one.provides ≡ other.provides
 
--- packages say the same exactly where what they say is equal
+-- packages say the same exactly if what they say is equal
 abbrev pub TestIsEquality : Type 0
 TestIsEquality = (one other : PackageFacts) → (says_same one other ≡ true ↔ SaysSame one other)

@@ -1,7 +1,8 @@
 -- When no plan is made of two indexes. Each of these is a refusal, and the first of them is named:
 --   1. both have a common architecture, and these differ;
 --   2. more than 256 names differ;
---   3. the packages of the old index and those of the new one whose names differ are more than 200,000;
+--   3. the packages of the old index and those of the new one whose names differ are more than
+--      200,000;
 --   4. the two texts and two line feeds have more than 1,073,741,824 bytes.
 use Rattle.std.specs.{Prelude.{◌≡◌, ⊤, ℕ, ◌+◌, Bool, false, not, nat_lt, if◌then◌else◌, List, Option, Some, None, filter, length}, Option.{option_or}}
 use Rattle.std.specs.Str.{bytes_eq}
@@ -38,7 +39,8 @@ plan_refusal old new =
     let names = differing (packages_in old) (packages_in new) in
     option_or (homes_refusal (home_in old) (home_in new))
     (option_or (above 256 Names (length names))
-    (option_or (above most_packages Packages (packages_with (packages_in old) (packages_in new) names))
+    (option_or
+    (above most_packages Packages (packages_with (packages_in old) (packages_in new) names))
     (above most_bytes TooLong (bytes_with old new))))
 
 -- a fact for each refusal, and nothing for want of memory

@@ -1,5 +1,6 @@
 -- for the bodies of this crate alone
--- What all mixes of two indexes are made of: the packages of the old one, and behind them those of the new one whose names differ.
+-- What mixes of two indexes are made of: all packages of the old one, then those of the new one
+-- whose names differ.
 use Rattle.std.specs.{Prelude.{◌≡◌, ℕ, ◌≤◌, Bool, true, List, ◌++◌, length, map, Option, Some, None, ⊤}, List.{items_where_true}, Option.{ForSome}}
 use Rattle.class_merge.specs.Classes.{class_in}
 use Rattle.clause_pool.specs.Interned.{Interned}
@@ -20,7 +21,8 @@ names_between whole = differing whole.old.now.view.now.suite.packages whole.new.
 
 -- at which budget, limit and hold the two are compared
 abbrev pub settings_between : Whole → Settings
-settings_between whole = plan_settings whole.old.now.budget whole.old.now.view.now.limit whole.old.now.view.now.kernel.hold
+settings_between whole = plan_settings whole.old.now.budget whole.old.now.view.now.limit
+    whole.old.now.view.now.kernel.hold
 
 -- the texts of the two indexes
 abbrev pub AreTextsOf : Texts → Whole → Type 0
@@ -28,18 +30,23 @@ AreTextsOf texts whole = AreTexts texts whole.old.now.view.now.suite whole.new.n
 
 -- all packages that mixes of the two have
 abbrev pub packages_of_both : Whole → List PackageFacts
-packages_of_both whole = whole.old.now.view.now.suite.packages ++ items_where_true whole.added.items whole.new.now.packages
+packages_of_both whole = whole.old.now.view.now.suite.packages
+    ++ items_where_true whole.added.items whole.new.now.packages
 
--- what is known of a part of a whole without hold, at the limit of the old view
+-- the base of a whole: rows of a part of it without hold, at the limit of the old view
 pub record IsBaseFor (whole : Whole) (base : Base) : Type 0 where
   pub limit_is : base.limit ≡ whole.old.now.view.now.limit
   pub base_is : IsBase whole.pool whole.book base
 
--- the packages that mixes of two indexes have, which are not too many, with their repository, and those that bear each name of the old side
+-- the packages that mixes of two indexes have, which are not too many, with their repository, and
+-- those that bear each name of the old side
 pub record IsWhole (whole : Whole) : Type 0 where
-  pub few : packages_with whole.old.now.view.now.suite.packages whole.new.now.packages (names_between whole) ≤ most_packages
-  pub added_are : whole.added.items ≡ map (λ facts. is_taken (names_between whole) facts.name) whole.new.now.packages
-  pub book_is : IsBookOf whole.pool whole.book (suite_repository whole.home (packages_of_both whole))
+  pub few : packages_with whole.old.now.view.now.suite.packages whole.new.now.packages
+      (names_between whole) ≤ most_packages
+  pub added_are : whole.added.items
+      ≡ map (λ facts. is_taken (names_between whole) facts.name) whole.new.now.packages
+  pub book_is : IsBookOf whole.pool whole.book
+      (suite_repository whole.home (packages_of_both whole))
   pub named_are : whole.named.items ≡ bearers_of (packages_of_both whole) whole.old.now.names
 
 -- the book of a kernel with its pool, and the class of each package
@@ -55,20 +62,24 @@ abbrev pub classes_made : MadeKernel → List ℕ
 classes_made (Own pool kernel class_of) = class_of.items
 classes_made (Beside classified rows) = classified.class_of
 
--- The kernel of a mix, which is the part of the whole that has these flags, at a clause limit, with hold or without. No round passes the
--- limit. And the class of each package of the mix, in the numbers of the whole.
-pub record IsMadeKernel (limit : ℕ) (hold : Bool) (W : Repository) (flags : List Bool) (made : MadeKernel) : Type 0 where
+-- The kernel of a mix, which is the part of the whole that has these flags, at a clause limit, with
+-- hold or without. No round passes the limit. And the class of each package of the mix, in the
+-- numbers of the whole.
+pub record IsMadeKernel (limit : ℕ) (hold : Bool) (W : Repository) (flags : List Bool)
+    (made : MadeKernel) : Type 0 where
   pub within : limit_at limit hold (part flags W) ≡ None
   pub book_is : IsBookOf (pool_made made) (book_made made) (kernel limit hold (part flags W))
   pub size : length (classes_made made) ≡ length flags
-  pub class_of : (p : ℕ) → flag flags p ≡ true → class_in (classes_made made) p ≡ kernel_class limit hold (part flags W) (place_in flags p)
+  pub class_of : (p : ℕ) → flag flags p ≡ true →
+      class_in (classes_made made) p ≡ kernel_class limit hold (part flags W) (place_in flags p)
 
 -- such a kernel, or none if the mix passes the limit
 abbrev pub IsKernelAt : ℕ → Bool → Repository → List Bool → Option MadeKernel → Type 0
 IsKernelAt limit hold W flags (Some made) = IsMadeKernel limit hold W flags made
-IsKernelAt limit hold W flags None = (passed : PassedRound) × (limit_at limit hold (part flags W) ≡ Some passed)
+IsKernelAt limit hold W flags None =
+    (passed : PassedRound) × (limit_at limit hold (part flags W) ≡ Some passed)
 
--- what a kernel knows of the rounds after the first, if anything, is so
+-- the rounds after the first that a kernel has, if any, are right
 abbrev pub KnowsRounds : MadeKernel → Type 0
 KnowsRounds (Own pool kernel class_of) = ⊤
 KnowsRounds (Beside classified rows) = AreKnownRounds classified.rounds
@@ -76,14 +87,16 @@ KnowsRounds (Beside classified rows) = AreKnownRounds classified.rounds
 -- the rows of a mix, if it has any, are rows over a base, and so the base may follow
 abbrev pub CanFollow : Option Base → List Bool → MadeKernel → Type 0
 CanFollow base flags (Own pool kernel class_of) = ⊤
-CanFollow base flags (Beside classified rows) = ForSome base (λ before. AreBaseRows before.pool rows.items (length flags))
+CanFollow base flags (Beside classified rows) =
+    ForSome base (λ before. AreBaseRows before.pool rows.items (length flags))
 
 -- and they are those of the mix
 abbrev pub HasMixRows : Whole → Option Base → List Bool → MadeKernel → Type 0
 HasMixRows whole base flags (Own pool kernel class_of) = ⊤
-HasMixRows whole base flags (Beside classified rows) = ForSome base (λ before. AreMixRows whole.pool whole.book before flags rows.items)
+HasMixRows whole base flags (Beside classified rows) =
+    ForSome base (λ before. AreMixRows whole.pool whole.book before flags rows.items)
 
--- what is handed on from mix to mix: what is known of a part of the whole, of pairs, and of the rounds after the first
+-- what is handed on from mix to mix: a base, judged pairs, and the rounds after the first
 pub record IsCarried (whole : Whole) (carried : Carried) : Type 0 where
   pub base_is : ForSome carried.base (IsBaseFor whole)
   pub known_are : ForSome carried.known AreKnownPairs

@@ -1,11 +1,13 @@
-//! Whether two packages say the same. A name whose packages do so is no difference of two indexes, and no mix is made for it.
+//! Whether two packages say the same. If the packages of a name do, the name is no difference of
+//! two indexes, and no mix is made for it.
 ghost use Rattle.std.specs.{Prelude.{◌≡◌}, Cmp.Lexicographic.{pointwise}, Option.{option_eq}, Str.{bytes_eq}};
 ghost use Rattle.migrate_plan.specs.Differing.{is_same_atom, is_same_bound, is_same_provide, op_place, says_same};
 
 use deb_version::{Bytes, Version};
 use relation_fields::{Atom, AtomList, Bound, Op, PackageFacts, Provide};
 
-/// Whether two packages have the same text of a version, and the same needs, conflicts and provides in the same order.
+/// Whether two packages have the same text of a version, and the same needs, conflicts and provides
+/// in the same order.
 #[tactic(auto, unfolding(crate::specs::Differing::says_same))]
 pub(crate) fn says_same(one: &PackageFacts, other: &PackageFacts) -> bool
     ensures { result ≡ says_same one.now other.now }

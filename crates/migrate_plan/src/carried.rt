@@ -15,12 +15,13 @@ use suite_part::Base;
 /// What is handed on from mix to mix.
 #[derive(Drop)]
 pub(crate) struct Carried {
-    /// What is known of the last mix that was taken, or of the old packages, without hold. None if the old packages pass the limit in the whole.
+    /// The flattened rows, without hold, of the last taken mix whose rows are known; at first those
+    /// of the old packages. None if the old packages pass the limit in the whole.
     pub(crate) base: Option<Base>,
-    /// What is known of pairs.
+    /// The judged pairs of the last comparison that judged pairs.
     pub(crate) known: Option<KnownPairs>,
-    /// What is known of the rounds behind the first: of the last mix that was taken, or of the first mix with a kernel, while none is taken. None
-    /// if there is no base.
+    /// The rounds after the first of the last mix that was taken. As long as none is taken, they
+    /// are those of the first mix with a kernel. None if there is no base.
     pub(crate) rounds: Option<KnownRounds>,
 }
 
@@ -38,7 +39,7 @@ pub(crate) fn first_carried(alloc: Global, whole: &Whole) -> Result<Carried, All
     })
 }
 
-// What is known of the part that the old packages make, without hold.
+// The base that the old packages make, without hold.
 fn base_of(alloc: Global, whole: &Whole) -> Result<Option<Base>, AllocError>
     requires whole { IsWhole whole.now }
     requires limit { 0 < whole.now.old.now.view.now.limit }
@@ -55,12 +56,14 @@ fn base_of(alloc: Global, whole: &Whole) -> Result<Option<Base>, AllocError>
     Ok(base)
 }
 
-/// Keeps what is known of a mix: its rows as the base if its name was taken, and the rounds after the first if it was, or if none are kept.
-/// Which rounds are kept affects time alone.
+/// Keeps what a later mix can reuse. The rows of a mix, if they are known, become the base if its
+/// name was taken. Its rounds after the first are stored if it was taken, or if none are stored.
+/// Which are stored affects time alone.
 pub(crate) fn keep(carried: &mut Carried, made: MadeKernel, flags: Vec<bool>, is_taken: bool)
     requires { CanFollow carried.old.base flags.items made }
     ensures refused { is_taken ≡ false → carried.new.base ≡ carried.old.base }
-    ensures carried { (whole : Whole) → IsCarried whole carried.old → KnowsRounds made → HasMixRows whole carried.old.base flags.items made → IsCarried whole carried.new }
+    ensures carried { (whole : Whole) → IsCarried whole carried.old → KnowsRounds made →
+        HasMixRows whole carried.old.base flags.items made → IsCarried whole carried.new }
 {
     let MadeKernel::Beside { classified, rows } = made else {
         return;
@@ -73,7 +76,8 @@ pub(crate) fn keep(carried: &mut Carried, made: MadeKernel, flags: Vec<bool>, is
 
 // Keeps the rounds after the first.
 fn keep_rounds(kept: &mut Option<KnownRounds>, rounds: KnownRounds, is_taken: bool)
-    ensures { ForSome kept.old AreKnownRounds → AreKnownRounds rounds → ForSome kept.new AreKnownRounds }
+    ensures { ForSome kept.old AreKnownRounds → AreKnownRounds rounds →
+        ForSome kept.new AreKnownRounds }
 {
     if is_taken || kept.is_none() {
         *kept = Some(rounds);
@@ -82,8 +86,11 @@ fn keep_rounds(kept: &mut Option<KnownRounds>, rounds: KnownRounds, is_taken: bo
 
 // Makes the base that of a mix.
 fn follow(base: &mut Option<Base>, flags: Vec<bool>, rows: Vec<RowId>)
-    requires { ForSome base.old (λ before. AreBaseRows before.pool rows.items (length flags.items)) }
-    ensures { (whole : Whole) → ForSome base.old (IsBaseFor whole) → ForSome base.old (λ before. AreMixRows whole.pool whole.book before flags.items rows.items) → ForSome base.new (IsBaseFor whole) }
+    requires { ForSome base.old (λ before.
+        AreBaseRows before.pool rows.items (length flags.items)) }
+    ensures { (whole : Whole) → ForSome base.old (IsBaseFor whole) → ForSome base.old (λ before.
+        AreMixRows whole.pool whole.book before flags.items rows.items) →
+        ForSome base.new (IsBaseFor whole) }
 {
     if let Some(base) = base {
         base.follow(flags, rows);

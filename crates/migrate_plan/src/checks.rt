@@ -46,7 +46,8 @@ fn are_apart(old: &Home, new: &Home) -> bool
 
 /// Checks that not too many names differ.
 pub(crate) fn check_names(names: &[Bytes]) -> Result<(), PlanError>
-    ensures refused { IfErr result (λ error. RefusesPlan error (above 256 Names (length names.now))) }
+    ensures refused { IfErr result (λ error.
+        RefusesPlan error (above 256 Names (length names.now))) }
     ensures fine { OnOk result (above 256 Names (length names.now) ≡ None) }
 {
     let count = names.len() as u64;
@@ -56,15 +57,18 @@ pub(crate) fn check_names(names: &[Bytes]) -> Result<(), PlanError>
     Ok(())
 }
 
-/// Checks that the packages of the old index, and those of the new one that have one of the names, are not too many.
+/// Checks that the packages of the old index, and those of the new one that have one of the names,
+/// are not too many.
 pub(crate) fn check_packages(
     alloc: Global,
     old: &Suite,
     new: &Suite,
     names: &[Bytes],
 ) -> Result<(), PlanError>
-    ensures refused { IfErr result (λ error. RefusesPlan error (above most_packages Packages (packages_with old.now.packages new.now.packages names.now))) }
-    ensures fine { OnOk result (above most_packages Packages (packages_with old.now.packages new.now.packages names.now) ≡ None) }
+    ensures refused { IfErr result (λ error. RefusesPlan error (above most_packages Packages
+        (packages_with old.now.packages new.now.packages names.now))) }
+    ensures fine { OnOk result (above most_packages Packages
+        (packages_with old.now.packages new.now.packages names.now) ≡ None) }
 {
     let count = packages_with(alloc, old, new, names)?;
     if count > MOST_PACKAGES {
@@ -80,18 +84,20 @@ fn packages_with(
     new: &Suite,
     names: &[Bytes],
 ) -> Result<u64, AllocError>
-    ensures { IfOk result (λ count. count ≡ packages_with old.now.packages new.now.packages names.now) }
+    ensures { IfOk result (λ count. count
+        ≡ packages_with old.now.packages new.now.packages names.now) }
 {
     let found = count_among(alloc, new, names)?;
     let count = old.count() as u64 + found as u64;
     Ok(count)
 }
 
-/// Checks that two texts with so many bytes, and two line feeds, are not too long.
+/// Checks that two texts with these numbers of bytes, and two line feeds, are not too long.
 pub(crate) fn check_length(old: u64, new: u64) -> Result<(), PlanError>
     requires old { old ≤ most_bytes }
     requires new { new ≤ most_bytes }
-    ensures refused { IfErr result (λ error. RefusesPlan error (above most_bytes TooLong (old + new + 2))) }
+    ensures refused { IfErr result (λ error.
+        RefusesPlan error (above most_bytes TooLong (old + new + 2))) }
     ensures fine { OnOk result (above most_bytes TooLong (old + new + 2) ≡ None) }
 {
     let count = old + new + 2;

@@ -11,7 +11,7 @@ use relation_fields::PackageFacts;
 use repo_model::{NameList, Suite};
 use std::alloc::{AllocError, Global};
 
-/// The names of which the packages of two indexes do not say the same, ascending by bytes.
+/// The names whose packages in the two indexes do not say the same, ascending by bytes.
 #[tactic(auto, unfolding(crate::specs::Differing::differing))]
 pub(crate) fn differing_names(
     alloc: Global,
@@ -34,7 +34,8 @@ fn those_that_differ(
     old: &Suite,
     new: &Suite,
 ) -> Result<NameList, AllocError>
-    ensures { IfOk result (λ made. made ≡ filter (differs old.now.packages new.now.packages) names.now) }
+    ensures { IfOk result (λ made. made
+        ≡ filter (differs old.now.packages new.now.packages) names.now) }
 {
     let mut made = NameList::new(alloc);
     for name in names {
@@ -51,7 +52,8 @@ fn those_that_differ(
 // Whether the packages of a name do not say the same in both.
 #[tactic(auto, unfolding(crate::specs::Differing::differs))]
 fn differs(alloc: Global, old: &Suite, new: &Suite, name: &[u8]) -> Result<bool, AllocError>
-    ensures { IfOk result (λ differing. differing ≡ differs old.now.packages new.now.packages name.now) }
+    ensures { IfOk result (λ differing. differing
+        ≡ differs old.now.packages new.now.packages name.now) }
 {
     let olds = old.named(alloc, name)?;
     let news = new.named(alloc, name)?;
@@ -67,7 +69,8 @@ fn differs(alloc: Global, old: &Suite, new: &Suite, name: &[u8]) -> Result<bool,
 fn say_same(old: &[PackageFacts], olds: &[u32], new: &[PackageFacts], news: &[u32]) -> bool
     requires old { (n : ℕ) → In n olds.now → n < length old.now }
     requires new { (n : ℕ) → In n news.now → n < length new.now }
-    ensures { result ≡ pointwise says_same (map (stanza_at old.now) olds.now) (map (stanza_at new.now) news.now) }
+    ensures { result ≡ pointwise says_same (map (stanza_at old.now) olds.now)
+        (map (stanza_at new.now) news.now) }
 {
     if olds.len() != news.len() {
         return false;

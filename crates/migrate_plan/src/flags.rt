@@ -1,4 +1,5 @@
-//! Which packages come into a mix: those of the newer index whose names are in a set, and those of the older one whose names are not.
+//! Which packages come into a mix: those of the newer index whose names are in a set, and those of
+//! the older one whose names are not.
 ghost use Rattle.std.specs.Prelude.{◌≡◌, false, true, filter, length, map, not, replicate, slice_set, IfOk};
 ghost use Rattle.migrate_plan.specs.{Flagged.{Raises}, Mix.{count_named, is_left, is_taken}};
 
@@ -6,14 +7,15 @@ use deb_version::Bytes;
 use repo_model::Suite;
 use std::alloc::{AllocError, Global};
 
-/// For each package whether its name is one of those that are taken. Its packages are found by the suite's register, however many
-/// there are.
+/// For each package whether its name is one of those that are taken. Its packages are found by the
+/// suite's register, however many there are.
 pub(crate) fn taken_flags(
     alloc: Global,
     suite: &Suite,
     taken: &[Bytes],
 ) -> Result<Vec<bool>, AllocError>
-    ensures { IfOk result (λ flags. flags.items ≡ map (λ facts. is_taken taken.now facts.name) suite.now.packages) }
+    ensures { IfOk result (λ flags. flags.items
+        ≡ map (λ facts. is_taken taken.now facts.name) suite.now.packages) }
 {
     let mut flags = no_flags(alloc, suite.count())?;
     for name in taken {
@@ -29,7 +31,8 @@ pub(crate) fn left_flags(
     suite: &Suite,
     taken: &[Bytes],
 ) -> Result<Vec<bool>, AllocError>
-    ensures { IfOk result (λ flags. flags.items ≡ map (λ facts. is_left taken.now facts.name) suite.now.packages) }
+    ensures { IfOk result (λ flags. flags.items
+        ≡ map (λ facts. is_left taken.now facts.name) suite.now.packages) }
 {
     let taken = taken_flags(alloc, suite, taken)?;
     let left = others(alloc, &taken)?;
@@ -43,7 +46,7 @@ fn others(alloc: Global, flags: &[bool]) -> Result<Vec<bool>, AllocError>
     flags.iter().map(|flag| !*flag).collect(alloc)
 }
 
-// So many flags, none of them up.
+// A flag for each package, none of them up.
 fn no_flags(alloc: Global, count: u32) -> Result<Vec<bool>, AllocError>
     ensures { IfOk result (λ flags. flags.items ≡ replicate count false) }
 {
@@ -59,7 +62,7 @@ fn raise_all(flags: &mut Vec<bool>, numbers: &[u32])
     }
 }
 
-// Raises the flag of a number, where it has one.
+// Raises the flag of a number, if it has one.
 fn raise(flags: &mut Vec<bool>, number: u32)
     ensures { flags.new.items ≡ slice_set flags.old.items number true }
 {

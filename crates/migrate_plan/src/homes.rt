@@ -1,7 +1,8 @@
 //! The common architecture of a mix.
 //!
-//! A suite has one architecture beside `all` at most, and each package knows whether it has it. So that of a mix is the first suite's,
-//! if a package of that suite that has it is in the mix, or else the second's likewise.
+//! A suite has one architecture beside `all` at most, and each package knows whether it has it. So
+//! that of a mix is the first suite's, if a package of that suite that has it is in the mix, or
+//! else the second's likewise.
 ghost use Rattle.std.specs.{Prelude.{◌≡◌, ◌&&◌, IfOk, slice_index_or, false}, List.{items_where_true}, Option.{option_or}};
 ghost use Rattle.migrate_plan.specs.Indexes.{has_arch_dependent, home_where};
 
@@ -10,7 +11,8 @@ use relation_fields::{Home, PackageFacts};
 use repo_model::Suite;
 use std::alloc::{AllocError, Global};
 
-/// The common architecture of the packages of two suites whose flags are up, those of the first suite before the others.
+/// The common architecture of the packages of two suites whose flags are up, those of the first
+/// suite before the others.
 pub(crate) fn home_of_both(
     alloc: Global,
     first: &Suite,
@@ -18,7 +20,8 @@ pub(crate) fn home_of_both(
     second: &Suite,
     others: &[bool],
 ) -> Result<Home, AllocError>
-    ensures { IfOk result (λ home. home.name ≡ option_or (home_where flags.now first.now) (home_where others.now second.now)) }
+    ensures { IfOk result (λ home. home.name
+        ≡ option_or (home_where flags.now first.now) (home_where others.now second.now)) }
 {
     let found = home_where(alloc, first, flags)?;
     match found {
@@ -30,7 +33,7 @@ pub(crate) fn home_of_both(
     }
 }
 
-// The architecture of a suite, where one of its packages whose flags are up has it.
+// The architecture of a suite, if one of its packages whose flags are up has it.
 fn home_where(alloc: Global, suite: &Suite, flags: &[bool]) -> Result<Option<Bytes>, AllocError>
     ensures { IfOk result (λ name. name ≡ home_where flags.now suite.now) }
 {

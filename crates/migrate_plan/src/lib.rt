@@ -1,4 +1,5 @@
-//! Which names can be taken over from a newer index into an older one, one after the other, without breaking any.
+//! Which names can be taken over from a newer index into an older one, one after the other, without
+//! breaking any.
 #![tactic(auto)]
 
 mod alike;

@@ -24,10 +24,12 @@ use repo_model::Suite;
 use std::alloc::{AllocError, Global};
 use suite_compare::{OldSide, SuiteView};
 
-/// Which of the names that differ can be taken over from a new index into an old one: each in turn, ascending by bytes, where
-/// the mix of the two with it and the names taken before is within the clause limit, and breaks nothing of the old index and
-/// leaves nothing open, within a budget of failed leaves a search, from 1 to 1,000,000. The old view is that of the old bytes at the clause limit, with hold or without; the new
-/// suite is that of the new bytes. At most 256 names may differ; for each of them a mix is made, reduced and compared.
+/// Which of the names that differ can be taken over from a new index into an old one. Each is tried
+/// in turn, ascending by bytes, in the mix of the two with it and the names taken before. It is
+/// taken if this mix is within the clause limit, breaks nothing of the old index and leaves nothing
+/// open. Each search has a budget of failed leaves, from 1 to 1,000,000. The old view is that of
+/// the old bytes at the clause limit, with hold or without; the new suite is that of the new bytes.
+/// At most 256 names may differ; for each of them a mix is made, reduced and compared.
 pub fn make_plan(
     alloc: Global,
     old_bytes: &[u8],
@@ -46,13 +48,18 @@ pub fn make_plan(
     requires new { IsSuiteOf new_bytes.now new.now.packages new.now.home.name }
     requires limit { 0 < limit }
     requires budget { IsBudget budget }
-    ensures refused { IfErr result (λ error. RefusesPlan error (plan_refusal old_bytes.now new_bytes.now)) }
+    ensures refused { IfErr result (λ error.
+        RefusesPlan error (plan_refusal old_bytes.now new_bytes.now)) }
     ensures accepted { OnOk result (plan_refusal old_bytes.now new_bytes.now ≡ None) }
-    ensures plan { IfOk result (λ made. made.lines ≡ plan (plan_settings budget limit hold) old_bytes.now new_bytes.now) }
+    ensures plan { IfOk result (λ made. made.lines
+        ≡ plan (plan_settings budget limit hold) old_bytes.now new_bytes.now) }
     ensures mixes { OnOk result (MixesAreIndexes old_bytes.now new_bytes.now) }
-    ensures names { IfOk result (λ made. map planned_name made.lines ≡ differing (packages_in old_bytes.now) (packages_in new_bytes.now)) }
-    ensures each { IfOk result (λ made. AreRight (plan_settings budget limit hold) old_bytes.now new_bytes.now [] made.lines) }
-    ensures safely { IfOk result (λ made. TakesSafely (plan_settings budget limit hold) old_bytes.now new_bytes.now made.lines) }
+    ensures names { IfOk result (λ made. map planned_name made.lines
+        ≡ differing (packages_in old_bytes.now) (packages_in new_bytes.now)) }
+    ensures each { IfOk result (λ made.
+        AreRight (plan_settings budget limit hold) old_bytes.now new_bytes.now [] made.lines) }
+    ensures safely { IfOk result (λ made.
+        TakesSafely (plan_settings budget limit hold) old_bytes.now new_bytes.now made.lines) }
 {
     let lengths = lengths_of(old_bytes, new_bytes);
     plan_between(alloc, old, new, lengths, budget)
@@ -69,9 +76,10 @@ fn lengths_of(old: &[u8], new: &[u8]) -> TextLengths
     }
 }
 
-/// The plan that `make_plan` makes, by the lengths of the two texts, which need not be kept. The old view is that of the old text, and
-/// the new suite that of the new one; the clause limit and hold are those of the view. The budget of failed leaves a search is from 1
-/// to 1,000,000. The error is the first refusal of the two texts, or want of memory.
+/// The plan that `make_plan` makes, by the lengths of the two texts, which need not be kept. The
+/// old view is that of the old text, and the new suite that of the new one; the clause limit and
+/// hold are those of the view. The budget of failed leaves a search is from 1 to 1,000,000. The
+/// error is the first refusal of the two texts, or want of memory.
 pub fn plan_between(
     alloc: Global,
     old: &SuiteView,
@@ -83,16 +91,25 @@ pub fn plan_between(
     requires new_short { lengths.new ≤ most_bytes }
     requires limit { 0 < old.now.limit }
     requires budget { IsBudget budget }
-    ensures refused { IfErr result (λ error. (texts : Texts) → AreMeasured texts old.now.suite new.now lengths → RefusesPlan error (plan_refusal texts.old texts.new)) }
-    ensures accepted { OnOk result ((texts : Texts) → AreMeasured texts old.now.suite new.now lengths → plan_refusal texts.old texts.new ≡ None) }
+    ensures refused { IfErr result (λ error. (texts : Texts) →
+        AreMeasured texts old.now.suite new.now lengths →
+        RefusesPlan error (plan_refusal texts.old texts.new)) }
+    ensures accepted { OnOk result ((texts : Texts) →
+        AreMeasured texts old.now.suite new.now lengths → plan_refusal texts.old texts.new ≡ None) }
     ensures plan { let settings = plan_settings budget old.now.limit old.now.kernel.hold in
-        IfOk result (λ made. (texts : Texts) → AreMeasured texts old.now.suite new.now lengths → made.lines ≡ plan settings texts.old texts.new) }
-    ensures mixes { OnOk result ((texts : Texts) → AreMeasured texts old.now.suite new.now lengths → MixesAreIndexes texts.old texts.new) }
-    ensures names { IfOk result (λ made. (texts : Texts) → AreMeasured texts old.now.suite new.now lengths → map planned_name made.lines ≡ differing (packages_in texts.old) (packages_in texts.new)) }
+        IfOk result (λ made. (texts : Texts) → AreMeasured texts old.now.suite new.now lengths →
+        made.lines ≡ plan settings texts.old texts.new) }
+    ensures mixes { OnOk result ((texts : Texts) → AreMeasured texts old.now.suite new.now lengths →
+        MixesAreIndexes texts.old texts.new) }
+    ensures names { IfOk result (λ made. (texts : Texts) →
+        AreMeasured texts old.now.suite new.now lengths →
+        map planned_name made.lines ≡ differing (packages_in texts.old) (packages_in texts.new)) }
     ensures each { let settings = plan_settings budget old.now.limit old.now.kernel.hold in
-        IfOk result (λ made. (texts : Texts) → AreMeasured texts old.now.suite new.now lengths → AreRight settings texts.old texts.new [] made.lines) }
+        IfOk result (λ made. (texts : Texts) → AreMeasured texts old.now.suite new.now lengths →
+        AreRight settings texts.old texts.new [] made.lines) }
     ensures safely { let settings = plan_settings budget old.now.limit old.now.kernel.hold in
-        IfOk result (λ made. (texts : Texts) → AreMeasured texts old.now.suite new.now lengths → TakesSafely settings texts.old texts.new made.lines) }
+        IfOk result (λ made. (texts : Texts) → AreMeasured texts old.now.suite new.now lengths →
+        TakesSafely settings texts.old texts.new made.lines) }
 {
     check_homes(&old.suite.home, &new.home)?;
     let found = differing_names(alloc, &old.suite, new)?;
@@ -117,7 +134,8 @@ fn lines_of(
     requires limit { 0 < old.now.limit }
     requires budget { IsBudget budget }
     ensures { let settings = plan_settings budget old.now.limit old.now.kernel.hold in
-        IfOk result (λ lines. (texts : Texts) → AreTexts texts old.now.suite new.now → lines ≡ lines_behind (line_behind settings texts.old texts.new) [] names.now) }
+        IfOk result (λ lines. (texts : Texts) → AreTexts texts old.now.suite new.now →
+        lines ≡ lines_behind (line_behind settings texts.old texts.new) [] names.now) }
 {
     let side = OldSide::new(alloc, old, budget)?;
     let lines = lines_with(alloc, &side, new, names);
@@ -125,7 +143,7 @@ fn lines_of(
     lines
 }
 
-// The same, where the side of the old view was made.
+// The lines, by the side of the old view.
 fn lines_with(
     alloc: Global,
     old: &OldSide,
@@ -133,10 +151,13 @@ fn lines_with(
     names: &[Bytes],
 ) -> Result<PlanList, AllocError>
     requires names { names.now ≡ differing old.now.view.now.suite.packages new.now.packages }
-    requires few { packages_with old.now.view.now.suite.packages new.now.packages names.now ≤ most_packages }
+    requires few { packages_with old.now.view.now.suite.packages new.now.packages names.now
+        ≤ most_packages }
     requires limit { 0 < old.now.view.now.limit }
-    ensures { let settings = plan_settings old.now.budget old.now.view.now.limit old.now.view.now.kernel.hold in
-        IfOk result (λ lines. (texts : Texts) → AreTexts texts old.now.view.now.suite new.now → lines ≡ lines_behind (line_behind settings texts.old texts.new) [] names.now) }
+    ensures { let settings = plan_settings old.now.budget old.now.view.now.limit
+        old.now.view.now.kernel.hold in
+        IfOk result (λ lines. (texts : Texts) → AreTexts texts old.now.view.now.suite new.now →
+        lines ≡ lines_behind (line_behind settings texts.old texts.new) [] names.now) }
 {
     let whole = whole_of(alloc, old, new, names)?;
     let lines = lines_beside(alloc, &whole, names);
@@ -144,12 +165,14 @@ fn lines_with(
     lines
 }
 
-// The same, where it is known what all mixes are made of.
+// The lines, by what all mixes are made of.
 fn lines_beside(alloc: Global, whole: &Whole, names: &[Bytes]) -> Result<PlanList, AllocError>
     requires whole { IsWhole whole.now }
     requires names { names.now ≡ names_between whole.now }
     requires limit { 0 < whole.now.old.now.view.now.limit }
-    ensures { IfOk result (λ lines. (texts : Texts) → AreTextsOf texts whole.now → lines ≡ lines_behind (line_behind (settings_between whole.now) texts.old texts.new) [] names.now) }
+    ensures { IfOk result (λ lines. (texts : Texts) → AreTextsOf texts whole.now →
+        lines ≡ lines_behind
+        (line_behind (settings_between whole.now) texts.old texts.new) [] names.now) }
 {
     let mut carried = first_carried(alloc, whole)?;
     let lines = lines_after(alloc, whole, names, &mut carried);
@@ -157,7 +180,7 @@ fn lines_beside(alloc: Global, whole: &Whole, names: &[Bytes]) -> Result<PlanLis
     lines
 }
 
-// The same, by what is handed on from mix to mix.
+// The lines, by what is handed on from mix to mix.
 fn lines_after(
     alloc: Global,
     whole: &Whole,
@@ -168,7 +191,9 @@ fn lines_after(
     requires names { names.now ≡ names_between whole.now }
     requires limit { 0 < whole.now.old.now.view.now.limit }
     requires carried { IsCarried whole.now carried.old }
-    ensures { IfOk result (λ lines. (texts : Texts) → AreTextsOf texts whole.now → lines ≡ lines_behind (line_behind (settings_between whole.now) texts.old texts.new) [] names.now) }
+    ensures { IfOk result (λ lines. (texts : Texts) → AreTextsOf texts whole.now →
+        lines ≡ lines_behind
+        (line_behind (settings_between whole.now) texts.old texts.new) [] names.now) }
 {
     let mut lines = PlanList::new(alloc);
     let mut taken = Vec::new(alloc);
@@ -194,7 +219,9 @@ fn try_name(
     requires limit { 0 < whole.now.old.now.view.now.limit }
     requires carried { IsCarried whole.now carried.old }
     ensures named { IfOk result (λ line. planned_name line ≡ name.now) }
-    ensures line { IfOk result (λ line. (texts : Texts) → AreTextsOf texts whole.now → (lines : List PlanLine) → taken.now ≡ taken_in lines → line ≡ line_behind (settings_between whole.now) texts.old texts.new lines name.now) }
+    ensures line { IfOk result (λ line. (texts : Texts) → AreTextsOf texts whole.now →
+        (lines : List PlanLine) → taken.now ≡ taken_in lines →
+        line ≡ line_behind (settings_between whole.now) texts.old texts.new lines name.now) }
     ensures carried { OnOk result (IsCarried whole.now carried.new) }
 {
     let suite = &whole.old.view.suite;
@@ -204,13 +231,14 @@ fn try_name(
         let found = line_in(alloc, whole, flags, name, carried)?;
         return Ok(found);
     }
-    // If no package of that architecture is in the mix, packages meet each other in another way than in the whole.
+    // If no package of that architecture is in the mix, packages meet each other in another way
+    // than in the whole.
     let made = suite_of(alloc, suite, whole.new, mix)?;
     let line = line_of(alloc, whole.old, made, name)?;
     Ok(line)
 }
 
-// Puts the name of a line behind those that are taken, where the line takes it.
+// Appends the name to the taken ones, if the line takes it.
 fn put_taken(alloc: Global, taken: &mut Vec<Bytes>, line: &PlanLine) -> Result<(), AllocError>
     ensures { OnOk result (taken.new.items ≡ taken.old.items ++ taken_in (line.now ∷ [])) }
 {

@@ -11,8 +11,8 @@ use relation_fields::Home;
 use repo_model::Suite;
 use std::alloc::{AllocError, Global};
 
-/// A mix of two suites: which packages of the old one are left in it, which of the new one are taken into it, and the common
-/// architecture.
+/// A mix of two suites: which packages of the old one are left in it, which of the new one are
+/// taken into it, and the common architecture.
 #[derive(Drop)]
 pub(crate) struct Mix {
     /// For each package of the old suite whether it is in the mix.
@@ -23,8 +23,8 @@ pub(crate) struct Mix {
     pub(crate) home: Home,
 }
 
-/// The mix of two suites. Packages of the names that are taken, and of the one that is tried with them, come from the new one, and all
-/// others from the old one.
+/// The mix of two suites. Packages of the names that are taken, and of the one that is tried with
+/// them, come from the new one, and all others from the old one.
 pub(crate) fn mix_with(
     alloc: Global,
     old: &Suite,
@@ -32,9 +32,12 @@ pub(crate) fn mix_with(
     taken: &[Bytes],
     tried: &[u8],
 ) -> Result<Mix, AllocError>
-    ensures left { IfOk result (λ mix. mix.left.items ≡ map (λ facts. is_left (taken.now ++ tried.now ∷ []) facts.name) old.now.packages) }
-    ensures kept { IfOk result (λ mix. mix.kept.items ≡ map (λ facts. is_taken (taken.now ++ tried.now ∷ []) facts.name) new.now.packages) }
-    ensures home { IfOk result (λ made. (texts : Texts) → AreTexts texts old.now new.now → made.home ≡ home_in (mix texts.old texts.new (taken.now ++ tried.now ∷ []))) }
+    ensures left { IfOk result (λ mix. mix.left.items
+        ≡ map (λ facts. is_left (taken.now ++ tried.now ∷ []) facts.name) old.now.packages) }
+    ensures kept { IfOk result (λ mix. mix.kept.items
+        ≡ map (λ facts. is_taken (taken.now ++ tried.now ∷ []) facts.name) new.now.packages) }
+    ensures home { IfOk result (λ made. (texts : Texts) → AreTexts texts old.now new.now →
+        made.home ≡ home_in (mix texts.old texts.new (taken.now ++ tried.now ∷ []))) }
 {
     let names = with_tried(alloc, taken, tried)?;
     let left = left_flags(alloc, old, &names)?;
@@ -52,8 +55,10 @@ pub(crate) fn suite_of(
 ) -> Result<Suite, AllocError>
     requires left { length mix.left.items ≡ length old.now.packages }
     requires kept { length mix.kept.items ≡ length new.now.packages }
-    requires few { length (items_where_true mix.left.items old.now.packages) + length (items_where_true mix.kept.items new.now.packages) ≤ most_packages }
-    ensures packages { IfOk result (λ suite. suite.packages ≡ items_where_true mix.left.items old.now.packages ++ items_where_true mix.kept.items new.now.packages) }
+    requires few { length (items_where_true mix.left.items old.now.packages)
+        + length (items_where_true mix.kept.items new.now.packages) ≤ most_packages }
+    ensures packages { IfOk result (λ suite. suite.packages ≡ items_where_true mix.left.items
+        old.now.packages ++ items_where_true mix.kept.items new.now.packages) }
     ensures home { IfOk result (λ suite. suite.home ≡ mix.home) }
 {
     let Mix { left, kept, home } = mix;

@@ -24,7 +24,8 @@ fn lent_names<'a>(
     old: &'a [PackageFacts],
     new: &'a [PackageFacts],
 ) -> Result<Vec<&'a [u8]>, AllocError>
-    ensures { IfOk result (λ names. map (λ name. name.now) names.items ≡ map (λ facts. facts.name) (old.now ++ new.now)) }
+    ensures { IfOk result (λ names. map (λ name. name.now) names.items
+        ≡ map (λ facts. facts.name) (old.now ++ new.now)) }
 {
     let mut names = Vec::new(alloc);
     for facts in old {

@@ -19,7 +19,8 @@ use std::alloc::{AllocError, Global};
 use suite_compare::{FirstLine, ReportLine, classes_of_chosen, first_line_by};
 use suite_part::{Base, Chosen, part_of};
 
-/// For each package of a whole whether it is in a mix: those of the old suite come first, and of the new one only those that were added.
+/// For each package of a whole whether it is in a mix: those of the old suite come first, and of
+/// the new one only those that were added.
 pub(crate) fn flags_in(
     alloc: Global,
     left: &[bool],
@@ -53,7 +54,9 @@ pub(crate) fn line_in(
     requires flags { length flags.items ≡ length (packages_of_both whole.now) }
     requires carried { IsCarried whole.now carried.old }
     ensures line { let before = whole.now.old.now.view.now in
-        IfOk result (λ line. line ≡ outcome_by (settings_between whole.now) before.suite.home before.suite.packages whole.now.home (items_where_true flags.items (packages_of_both whole.now)) name.now) }
+        IfOk result (λ line. line
+        ≡ outcome_by (settings_between whole.now) before.suite.home before.suite.packages
+        whole.now.home (items_where_true flags.items (packages_of_both whole.now)) name.now) }
     ensures carried { OnOk result (IsCarried whole.now carried.new) }
 {
     let Some(made) = kernel_in(alloc, whole, &flags, carried)? else {
@@ -75,10 +78,13 @@ fn told_by(
 ) -> Result<Option<ReportLine>, AllocError>
     requires whole { IsWhole whole.now }
     requires flags { length flags.now ≡ length (packages_of_both whole.now) }
-    requires kernel { let before = whole.now.old.now.view.now in IsMadeKernel before.limit before.kernel.hold (repository_of whole.now.pool whole.now.book) flags.now made.now }
+    requires kernel { let before = whole.now.old.now.view.now in IsMadeKernel before.limit
+        before.kernel.hold (repository_of whole.now.pool whole.now.book) flags.now made.now }
     requires known { ForSome carried.old.known AreKnownPairs }
     ensures told { let before = whole.now.old.now.view.now in
-        IfOk result (λ told. told ≡ first_told (told_of (settings_between whole.now) before.suite.home before.suite.packages whole.now.home (items_where_true flags.now (packages_of_both whole.now)))) }
+        IfOk result (λ told. told
+        ≡ first_told (told_of (settings_between whole.now) before.suite.home before.suite.packages
+        whole.now.home (items_where_true flags.now (packages_of_both whole.now)))) }
     ensures base { carried.new.base ≡ carried.old.base }
     ensures rounds { carried.new.rounds ≡ carried.old.rounds }
     ensures known { OnOk result (ForSome carried.new.known AreKnownPairs) }
@@ -102,9 +108,11 @@ fn kernel_in(
     requires book { Sound whole.now.pool whole.now.book }
     requires flags { length flags.now ≡ length whole.now.book.rows }
     requires carried { IsCarried whole.now carried.old }
-    ensures kernel { let before = whole.now.old.now.view.now in IfOk result (IsKernelAt before.limit before.kernel.hold (repository_of whole.now.pool whole.now.book) flags.now) }
+    ensures kernel { let before = whole.now.old.now.view.now in IfOk result (IsKernelAt before.limit
+        before.kernel.hold (repository_of whole.now.pool whole.now.book) flags.now) }
     ensures known { IfOk result (λ made. ForSome made KnowsRounds) }
-    ensures rows { IfOk result (λ made. ForSome made (HasMixRows whole.now carried.new.base flags.now)) }
+    ensures rows { IfOk result (λ made.
+        ForSome made (HasMixRows whole.now carried.new.base flags.now)) }
     ensures carried { IsCarried whole.now carried.new }
 {
     match &mut carried.base {
@@ -113,7 +121,8 @@ fn kernel_in(
     }
 }
 
-// The same, by what is known of a part of the whole. If no row of the mix passes the limit without hold, hold changes neither the kernel nor a class.
+// The kernel of a mix, by what is known of a part of the whole. If no row of the mix passes the
+// limit without hold, hold changes neither the kernel nor a class.
 fn kernel_by(
     alloc: Global,
     whole: &Whole,
@@ -126,9 +135,11 @@ fn kernel_by(
     requires flags { length flags.now ≡ length whole.now.book.rows }
     requires base { IsBaseFor whole.now base.old }
     requires rounds { ForSome rounds.old AreKnownRounds }
-    ensures kernel { let before = whole.now.old.now.view.now in IfOk result (IsKernelAt before.limit before.kernel.hold (repository_of whole.now.pool whole.now.book) flags.now) }
+    ensures kernel { let before = whole.now.old.now.view.now in IfOk result (IsKernelAt before.limit
+        before.kernel.hold (repository_of whole.now.pool whole.now.book) flags.now) }
     ensures known { IfOk result (λ made. ForSome made KnowsRounds) }
-    ensures rows { IfOk result (λ made. ForSome made (HasMixRows whole.now (Some base.new) flags.now)) }
+    ensures rows { IfOk result (λ made.
+        ForSome made (HasMixRows whole.now (Some base.new) flags.now)) }
     ensures base { IsBaseFor whole.now base.new }
     ensures rounds { ForSome rounds.new AreKnownRounds }
 {
@@ -147,10 +158,13 @@ fn kernel_over(
     requires limit { 0 < whole.now.old.now.view.now.limit }
     requires book { Sound whole.now.pool whole.now.book }
     requires flags { length flags.now ≡ length whole.now.book.rows }
-    requires over { IsKernelAt whole.now.old.now.view.now.limit false (repository_of whole.now.pool whole.now.book) flags.now None }
-    ensures kernel { let before = whole.now.old.now.view.now in IfOk result (IsKernelAt before.limit before.kernel.hold (repository_of whole.now.pool whole.now.book) flags.now) }
+    requires over { IsKernelAt whole.now.old.now.view.now.limit false
+        (repository_of whole.now.pool whole.now.book) flags.now None }
+    ensures kernel { let before = whole.now.old.now.view.now in IfOk result (IsKernelAt before.limit
+        before.kernel.hold (repository_of whole.now.pool whole.now.book) flags.now) }
     ensures known { IfOk result (λ made. ForSome made KnowsRounds) }
-    ensures rows { (base : Option Base) → IfOk result (λ made. ForSome made (HasMixRows whole.now base flags.now)) }
+    ensures rows { (base : Option Base) →
+        IfOk result (λ made. ForSome made (HasMixRows whole.now base flags.now)) }
 {
     if !whole.old.view.kernel.hold {
         return Ok(None);
@@ -158,7 +172,8 @@ fn kernel_over(
     kernel_alone(alloc, whole, flags)
 }
 
-// The kernel of a mix without hold, by the rows of the base and those that have changed; none if it passes the clause limit.
+// The kernel of a mix without hold, by the rows of the base and those that have changed; none if it
+// passes the clause limit.
 fn kernel_beside(
     alloc: Global,
     whole: &Whole,
@@ -171,9 +186,11 @@ fn kernel_beside(
     requires flags { length flags.now ≡ length whole.now.book.rows }
     requires base { IsBaseFor whole.now base.old }
     requires rounds { ForSome rounds.old AreKnownRounds }
-    ensures kernel { IfOk result (IsKernelAt whole.now.old.now.view.now.limit false (repository_of whole.now.pool whole.now.book) flags.now) }
+    ensures kernel { IfOk result (IsKernelAt whole.now.old.now.view.now.limit false
+        (repository_of whole.now.pool whole.now.book) flags.now) }
     ensures known { IfOk result (λ made. ForSome made KnowsRounds) }
-    ensures rows { IfOk result (λ made. ForSome made (HasMixRows whole.now (Some base.new) flags.now)) }
+    ensures rows { IfOk result (λ made.
+        ForSome made (HasMixRows whole.now (Some base.new) flags.now)) }
     ensures base { IsBaseFor whole.now base.new }
     ensures rounds { ForSome rounds.new AreKnownRounds }
 {
@@ -196,7 +213,8 @@ fn beside(made: Option<Classified>, rows: Vec<RowId>) -> Option<MadeKernel>
     }
 }
 
-// The kernel of a mix at the limit and hold of the old view, from the book of the mix; none if it passes the clause limit.
+// The kernel of a mix at the limit and hold of the old view, from the book of the mix; none if it
+// passes the clause limit.
 fn kernel_alone(
     alloc: Global,
     whole: &Whole,
@@ -205,9 +223,11 @@ fn kernel_alone(
     requires limit { 0 < whole.now.old.now.view.now.limit }
     requires book { Sound whole.now.pool whole.now.book }
     requires flags { length flags.now ≡ length whole.now.book.rows }
-    ensures kernel { let before = whole.now.old.now.view.now in IfOk result (IsKernelAt before.limit before.kernel.hold (repository_of whole.now.pool whole.now.book) flags.now) }
+    ensures kernel { let before = whole.now.old.now.view.now in IfOk result (IsKernelAt before.limit
+        before.kernel.hold (repository_of whole.now.pool whole.now.book) flags.now) }
     ensures known { IfOk result (λ made. ForSome made KnowsRounds) }
-    ensures rows { (base : Option Base) → IfOk result (λ made. ForSome made (HasMixRows whole.now base flags.now)) }
+    ensures rows { (base : Option Base) →
+        IfOk result (λ made. ForSome made (HasMixRows whole.now base flags.now)) }
 {
     let chosen = Chosen::of(alloc, Vec::from_slice(alloc, flags)?)?;
     let mut pool = Pool::new(alloc)?;

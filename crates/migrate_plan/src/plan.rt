@@ -20,7 +20,7 @@ pub enum PlanLine {
     LeftLine {
         /// The name.
         name: Bytes,
-        /// What is told first of the mix with it.
+        /// The first line of the comparison with the mix.
         line: ReportLine,
     },
 }

@@ -14,7 +14,8 @@ pub enum PlanError {
         /// How many differ.
         count: u64,
     },
-    /// The packages of the old index and those of the new one whose names differ are more than 200,000.
+    /// The packages of the old index and those of the new one whose names differ are more than
+    /// 200,000.
     Packages {
         /// How many they are.
         count: u64,

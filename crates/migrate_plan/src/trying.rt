@@ -9,8 +9,8 @@ use repo_model::Suite;
 use std::alloc::{AllocError, Global};
 use suite_compare::{LimitError, OldSide, ReportLine, SuiteView, first_line};
 
-/// The line of a name by the suite of the mix with it, at the limit and hold of the view of the old index. Such a suite is made only if the mix has
-/// another common architecture than the whole.
+/// The line of a name by the suite of the mix with it, at the limit and hold of the view of the old
+/// index. Such a suite is made only if the mix has another common architecture than the whole.
 pub(crate) fn line_of(
     alloc: Global,
     old: &OldSide,
@@ -18,7 +18,10 @@ pub(crate) fn line_of(
     name: &[u8],
 ) -> Result<PlanLine, AllocError>
     requires limit { 0 < old.now.view.now.limit }
-    ensures { let view = old.now.view.now in let settings = plan_settings old.now.budget view.limit view.kernel.hold in IfOk result (λ line. line ≡ outcome_by settings view.suite.home view.suite.packages mix.home mix.packages name.now) }
+    ensures { let view = old.now.view.now in
+        let settings = plan_settings old.now.budget view.limit view.kernel.hold in
+        IfOk result (λ line. line
+        ≡ outcome_by settings view.suite.home view.suite.packages mix.home mix.packages name.now) }
 {
     let made = view_of(alloc, mix, old.view.limit, old.view.kernel.hold)?;
     match made {
@@ -34,7 +37,8 @@ pub(crate) fn line_of(
     }
 }
 
-// The line of a name by the view of the mix with it, at the limit and hold of the view of the old index.
+// The line of a name by the view of the mix with it, at the limit and hold of the view of the old
+// index.
 fn line_by_view(
     alloc: Global,
     old: &OldSide,
@@ -43,14 +47,17 @@ fn line_by_view(
 ) -> Result<PlanLine, AllocError>
     requires limit { view.now.limit ≡ old.now.view.now.limit }
     requires hold { view.now.kernel.hold ≡ old.now.view.now.kernel.hold }
-    ensures { let before = old.now.view.now in let settings = plan_settings old.now.budget before.limit before.kernel.hold in IfOk result (λ line. line ≡ outcome_of name.now None (told_of settings before.suite.home before.suite.packages view.now.suite.home view.now.suite.packages)) }
+    ensures { let before = old.now.view.now in
+        let settings = plan_settings old.now.budget before.limit before.kernel.hold in
+        IfOk result (λ line. line ≡ outcome_of name.now None (told_of settings before.suite.home
+        before.suite.packages view.now.suite.home view.now.suite.packages)) }
 {
     let first = first_line(alloc, old, view)?;
     let line = line_by_first(alloc, name, first)?;
     Ok(line)
 }
 
-// The view of a mix; none where it passes the clause limit.
+// The view of a mix; none if it passes the clause limit.
 fn view_of(
     alloc: Global,
     mix: Suite,
@@ -67,13 +74,14 @@ fn view_of(
     }
 }
 
-/// The line of a name by the first line that is told of the mix with it.
+/// The line of a name by the first line of the comparison with its mix.
 pub(crate) fn line_by_first(
     alloc: Global,
     name: &[u8],
     first: Option<ReportLine>,
 ) -> Result<PlanLine, AllocError>
-    ensures { (lines : List ReportLine) → first ≡ first_told lines → IfOk result (λ line. line ≡ outcome_of name.now None lines) }
+    ensures { (lines : List ReportLine) → first ≡ first_told lines →
+        IfOk result (λ line. line ≡ outcome_of name.now None lines) }
 {
     let name = Bytes::copy(alloc, name)?;
     match first {

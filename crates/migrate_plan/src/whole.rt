@@ -13,8 +13,8 @@ use row_book::Book;
 use std::alloc::{AllocError, Global};
 use suite_compare::{FewNumbers, OldSide, bearers_of};
 
-/// Two indexes, and all packages that mixes of them have: those of the old one, and behind them those of the new one whose names
-/// differ.
+/// Two indexes, and all packages that mixes of them have. These are first those of the old one, and
+/// then those of the new one whose names differ.
 #[derive(Drop)]
 pub(crate) struct Whole<'a> {
     /// The side of the old index in comparisons.
@@ -41,7 +41,8 @@ pub(crate) fn whole_of<'a>(
     names: &[Bytes],
 ) -> Result<Whole<'a>, AllocError>
     requires names { names.now ≡ differing old.now.view.now.suite.packages new.now.packages }
-    requires few { packages_with old.now.view.now.suite.packages new.now.packages names.now ≤ most_packages }
+    requires few { packages_with old.now.view.now.suite.packages new.now.packages names.now
+        ≤ most_packages }
     ensures side { IfOk result (λ whole. whole.old.now ≡ old.now) }
     ensures suite { IfOk result (λ whole. whole.new.now ≡ new.now) }
     ensures whole { IfOk result IsWhole }
@@ -63,7 +64,8 @@ pub(crate) fn whole_of<'a>(
     })
 }
 
-// What is made of all packages that mixes have: their repository over a pool, and those that bear each old name.
+// What is made of all packages that mixes have: their repository over a pool, and those that bear
+// each old name.
 #[derive(Drop)]
 struct Numbered {
     pool: Pool,
@@ -73,8 +75,10 @@ struct Numbered {
 
 // What is made of a suite.
 fn numbered_of(alloc: Global, old: &OldSide, suite: &Suite) -> Result<Numbered, AllocError>
-    ensures book { IfOk result (λ made. IsBookOf made.pool made.book (suite_repository suite.now.home suite.now.packages)) }
-    ensures named { IfOk result (λ made. made.named.items ≡ bearers_of suite.now.packages old.now.names) }
+    ensures book { IfOk result (λ made.
+        IsBookOf made.pool made.book (suite_repository suite.now.home suite.now.packages)) }
+    ensures named { IfOk result (λ made. made.named.items
+        ≡ bearers_of suite.now.packages old.now.names) }
 {
     let named = bearers_of(alloc, suite, old.names())?;
     let mut pool = Pool::new(alloc)?;
@@ -82,7 +86,7 @@ fn numbered_of(alloc: Global, old: &OldSide, suite: &Suite) -> Result<Numbered, 
     Ok(Numbered { pool, book, named })
 }
 
-// All packages of the old suite, and behind them those of the new one whose flags are up.
+// All packages of the old suite, followed by those of the new one whose flags are up.
 fn joined(
     alloc: Global,
     old: &Suite,
@@ -91,8 +95,10 @@ fn joined(
     home: &Home,
 ) -> Result<Suite, AllocError>
     requires flags { length added.now ≡ length new.now.packages }
-    requires few { length old.now.packages + length (items_where_true added.now new.now.packages) ≤ most_packages }
-    ensures packages { IfOk result (λ suite. suite.packages ≡ old.now.packages ++ items_where_true added.now new.now.packages) }
+    requires few { length old.now.packages
+        + length (items_where_true added.now new.now.packages) ≤ most_packages }
+    ensures packages { IfOk result (λ suite. suite.packages
+        ≡ old.now.packages ++ items_where_true added.now new.now.packages) }
     ensures home { IfOk result (λ suite. suite.home ≡ home.now) }
 {
     let home = copy_of_home(alloc, home)?;
@@ -101,7 +107,7 @@ fn joined(
     Ok(suite)
 }
 
-// So many flags, all of them up.
+// A flag for each package, all of them up.
 fn all_flags(alloc: Global, count: u32) -> Result<Vec<bool>, AllocError>
     ensures { IfOk result (λ flags. flags.items ≡ replicate count true) }
 {
@@ -116,7 +122,7 @@ fn common_home(alloc: Global, old: &Home, new: &Home) -> Result<Home, AllocError
     copy_of_home(alloc, new)
 }
 
-// The same architecture.
+// A copy of the architecture.
 fn copy_of_home(alloc: Global, home: &Home) -> Result<Home, AllocError>
     ensures { IfOk result (λ copy. copy ≡ home.now) }
 {

@@ -1,6 +1,7 @@
 //! The checker of logs.
 //!
-//! Plain scans on purpose: no table is shared with the search, so a fault of one cannot agree with itself.
+//! Plain scans on purpose: no table is shared with the search, so a fault of one cannot agree with
+//! itself.
 ghost use Rattle.std.specs.{Prelude.{IfOk, IsTrue, ◌↔◌, length}, Bool.{OnTrue}};
 ghost use Rattle.row_book.specs.{Book.{repository_of, Sound}, Needs.{NeedsFit}};
 ghost use Rattle.search_terms.specs.{Closure.{InRange}, Derives.{Derives}, Form.{form}, Laws.{HasNoSolution}};
@@ -12,9 +13,9 @@ use row_book::{Book, Needs};
 use search_terms::Log;
 use std::alloc::{AllocError, Global};
 
-/// Whether the log derives the empty entry over the formula of the book and the goals; where it does, no healthy set of the
-/// book hits every goal. It fails only where no memory is found. It scans the formula and the earlier entries once for each
-/// unit step of each entry.
+/// Whether the log derives the empty entry over the formula of the book and the goals. If it does,
+/// no healthy set of the book hits every goal. The formula and the earlier entries are scanned once
+/// for each unit step of each entry.
 pub fn check(
     alloc: Global,
     pool: &Pool,
@@ -25,8 +26,10 @@ pub fn check(
     requires sound { Sound pool.now book.now }
     requires goals { NeedsFit (length book.now.rows) goals.now }
     requires log { InRange (length book.now.rows) log.now.entries }
-    ensures derives { IfOk result (λ r. IsTrue r ↔ Derives (form (repository_of pool.now book.now) goals.now) log.now.entries) }
-    ensures refutes { IfOk result (λ r. OnTrue r (HasNoSolution (repository_of pool.now book.now) goals.now)) }
+    ensures derives { IfOk result (λ r. IsTrue r
+        ↔ Derives (form (repository_of pool.now book.now) goals.now) log.now.entries) }
+    ensures refutes { IfOk result (λ r.
+        OnTrue r (HasNoSolution (repository_of pool.now book.now) goals.now)) }
 {
     let formula = form_of(alloc, pool, book, goals)?;
     let answer = derives(alloc, book.size(), &formula, log.entries.as_slice())?;

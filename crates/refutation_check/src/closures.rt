@@ -12,7 +12,8 @@ fn mark_all(flags: &mut [bool], classes: u32, given: &[Literal])
     requires long { length flags.old ≡ classes * 2 }
     requires given { All (λ l. l.class < classes) given.now }
     ensures all { HasGiven (is_marked flags.new) given.now }
-    ensures only { (s : Literal → Bool) → HasGiven s given.now → IsWithin (is_marked flags.old) s → IsWithin (is_marked flags.new) s }
+    ensures only { (s : Literal → Bool) → HasGiven s given.now → IsWithin (is_marked flags.old) s →
+        IsWithin (is_marked flags.new) s }
 {
     for l in given {
         flags[l.place()] = true;
@@ -49,7 +50,8 @@ fn closure(
     requires first { InRange classes first.now }
     requires second { InRange classes second.now }
     requires given { All (λ l. l.class < classes) given.now }
-    ensures closure { IfOk result (λ flags. IsClosure (first.now ++ second.now) given.now (is_marked flags.items)) }
+    ensures closure { IfOk result (λ flags.
+        IsClosure (first.now ++ second.now) given.now (is_marked flags.items)) }
     ensures long { IfOk result (λ flags. length flags.items ≡ classes * 2) }
 {
     let mut flags = vec![in alloc; false; classes as usize * 2]?;
@@ -110,7 +112,8 @@ pub(crate) fn follows(
     requires first { InRange classes first.now }
     requires second { InRange classes second.now }
     requires entry { All (λ l. l.class < classes) entry.now }
-    ensures { IfOk result (λ r. IsTrue r ↔ Clashes (first.now ++ second.now) (map negation entry.now)) }
+    ensures { IfOk result (λ r. IsTrue r
+        ↔ Clashes (first.now ++ second.now) (map negation entry.now)) }
 {
     let given = negated(alloc, entry)?;
     clashes(alloc, classes, first, second, &given)

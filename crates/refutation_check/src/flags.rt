@@ -39,7 +39,8 @@ pub(crate) fn is_some_refuted(flags: &[bool], formula: &[LiteralList]) -> bool
 
 /// A literal that the sentence forces and that is not marked.
 fn forced_in(flags: &[bool], sentence: &[Literal]) -> Option<Literal>
-    ensures { result ≡ find (λ l. not (is_marked flags.now l) && forces (is_marked flags.now) l sentence.now) sentence.now }
+    ensures { result ≡ find (λ l.
+        not (is_marked flags.now l) && forces (is_marked flags.now) l sentence.now) sentence.now }
 {
     sentence.iter().copied().find(|l| !is_marked(flags, *l) && is_forced(flags, *l, sentence))
 }
@@ -57,7 +58,7 @@ fn forced(flags: &[bool], formula: &[LiteralList]) -> Option<Literal>
     None
 }
 
-/// The same over two lists of sentences.
+/// As `forced`, but over two lists of sentences.
 fn forced_by_either(
     flags: &[bool],
     first: &[LiteralList],
@@ -78,7 +79,8 @@ pub(crate) fn close(flags: &mut [bool], classes: u32, first: &[LiteralList], sec
     requires first { InRange classes first.now }
     requires second { InRange classes second.now }
     ensures kept { IsWithin (is_marked flags.old) (is_marked flags.new) }
-    ensures sound { (s : Literal → Bool) → IsWithin (is_marked flags.old) s → IsUnitClosed (first.now ++ second.now) s → IsWithin (is_marked flags.new) s }
+    ensures sound { (s : Literal → Bool) → IsWithin (is_marked flags.old) s →
+        IsUnitClosed (first.now ++ second.now) s → IsWithin (is_marked flags.new) s }
     ensures closed { IsUnitClosed (first.now ++ second.now) (is_marked flags.new) }
 {
     while let Some(l) = forced_by_either(flags, first, second) {

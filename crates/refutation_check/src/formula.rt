@@ -25,7 +25,7 @@ fn pair_of(alloc: Global, p: u32, q: u32) -> Result<LiteralList, AllocError>
     Ok(Listed::of(items))
 }
 
-/// Puts the sentences of the conflicts of a class behind the others.
+/// Appends the sentences of the conflicts of a class.
 fn add_pairs(
     alloc: Global,
     p: u32,
@@ -40,14 +40,15 @@ fn add_pairs(
     Ok(())
 }
 
-/// Puts the sentences of all conflicts behind the others.
+/// Appends the sentences of all conflicts.
 fn add_conflicts(
     alloc: Global,
     conflicts: &[NumList],
     all: &mut Vec<LiteralList>,
 ) -> Result<(), AllocError>
     requires { length conflicts.now < u32.MAX }
-    ensures { OnOk result (all.new.items ≡ all.old.items ++ owned_sentences conflict_sentence 0 conflicts.now) }
+    ensures { OnOk result (all.new.items
+        ≡ all.old.items ++ owned_sentences conflict_sentence 0 conflicts.now) }
 {
     for (p, others) in conflicts.iter().enumerate() {
         add_pairs(alloc, p as u32, others.as_slice(), all)?;

@@ -1,4 +1,5 @@
--- Which jobs are answered by a report: their files are there, are accepted and within the limits, and their goals are known.
+-- Which jobs are answered by a report: their files are there, are accepted and within the limits,
+-- and their goals are known.
 use Rattle.std.specs.Prelude.{◌≡◌, ◌↔◌, ℕ, false, List, Some, None}
 use Rattle.byte_flow.specs.Flow.{Files}
 use Rattle.coinst_words.specs.{declared.job.Job.{Job}, declared.job.Job.TheVariants.{Kernel, Query, StoredQuery, Compare, Explain, Status, Migrate, Sample}}
@@ -19,22 +20,32 @@ AreKnown text goals = unknown_goal (packages_in text) goals ≡ None
 
 -- what each job wants of the files
 abbrev pub IsComplete : Files → Job → Type 0
-IsComplete files (Kernel index json limit hold) = (text : List ℕ) × HasKernel files index limit hold text
-IsComplete files (Query index goals budget limit hold) = (text : List ℕ) × HasKernel files index limit hold text × AreKnown text goals
+IsComplete files (Kernel index json limit hold) =
+    (text : List ℕ) × HasKernel files index limit hold text
+IsComplete files (Query index goals budget limit hold) =
+    (text : List ℕ) × HasKernel files index limit hold text × AreKnown text goals
 IsComplete files (StoredQuery kernel goals budget) =
-    (text : List ℕ) × HasFile files kernel text × ((content : KernelContent) × KernelReads text content.format content.repository content.members content.held × (unknown_in_kernel content.members goals ≡ None))
-IsComplete files (Compare old new budget limit hold) = (first : List ℕ) × (second : List ℕ) × HasKernel files old limit hold first × HasKernel files new limit hold second
-IsComplete files (Explain index goals budget limit hold) = (text : List ℕ) × HasKernel files index limit hold text × AreKnown text goals
+    (text : List ℕ) × HasFile files kernel text × ((content : KernelContent)
+    × KernelReads text content.format content.repository content.members content.held
+    × (unknown_in_kernel content.members goals ≡ None))
+IsComplete files (Compare old new budget limit hold) = (first : List ℕ) × (second : List ℕ)
+    × HasKernel files old limit hold first × HasKernel files new limit hold second
+IsComplete files (Explain index goals budget limit hold) =
+    (text : List ℕ) × HasKernel files index limit hold text × AreKnown text goals
 IsComplete files (Status file index budget limit hold) =
-    (text : List ℕ) × (system : List ℕ) × HasKernel files index limit hold text × HasFile files file system × (status_fault (home_in text) system ≡ None)
+    (text : List ℕ) × (system : List ℕ) × HasKernel files index limit hold text
+    × HasFile files file system × (status_fault (home_in text) system ≡ None)
 IsComplete files (Migrate old new budget limit hold) =
-    (first : List ℕ) × (second : List ℕ) × HasKernel files old limit hold first × HasIndex files new second × (plan_refusal first second ≡ None)
+    (first : List ℕ) × (second : List ℕ) × HasKernel files old limit hold first
+    × HasIndex files new second × (plan_refusal first second ≡ None)
 IsComplete files (Sample seed count) = IsWithinLimit sample_limit false (sample_text seed count)
 
 -- the outcome is a report
 abbrev pub GivesReport : Outcome → Type 0
-GivesReport outcome = (verdict : ReportVerdict) × (printed : List ℕ) × (outcome ≡ answered (reported verdict printed))
+GivesReport outcome =
+    (verdict : ReportVerdict) × (printed : List ℕ) × (outcome ≡ answered (reported verdict printed))
 
--- words that ask for a job are answered by a report exactly where it is complete
+-- words that ask for a job are answered by a report exactly if the job is complete
 abbrev pub CompleteJobsReport : Type 0
-CompleteJobsReport = (words : List (List ℕ)) (files : Files) (job : Job) → job_of words ≡ Some job → IsInLimits job → (GivesReport (outcome_for words files) ↔ IsComplete files job)
+CompleteJobsReport = (words : List (List ℕ)) (files : Files) (job : Job) → job_of words ≡ Some job →
+    IsInLimits job → (GivesReport (outcome_for words files) ↔ IsComplete files job)

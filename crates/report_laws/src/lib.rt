@@ -1,13 +1,13 @@
-//! The laws of reports: when a command is answered by one, what each one says, and that a stored kernel answers as its index does. The
-//! functions do nothing, the contract of each is one law.
+//! The laws of reports: when a command is answered by one, what each one says, and that a stored
+//! kernel answers as its index does. The functions do nothing: the contract of each is one law.
 #![tactic(auto)]
 
 ghost use Rattle.coinst_run.specs.{CompareMeaning.{CompareIsMeant}, ExplainMeaning.{ExplainIsMeant}, MigrateMeaning.{MigrateIsMeant}};
 ghost use Rattle.coinst_run.specs.{QueryMeaning.{QueryIsMeant}, StoredMeaning.{StoredQueryIsMeant}, SystemMeaning.{SystemIsMeant}};
 ghost use Rattle.report_laws.specs.{Complete.{CompleteJobsReport}, StoredAgrees.{StoredAnswersAsIndex, StoredImagesAreOfIndex}};
 
-/// Words that ask for a job are answered by a report exactly if its files are there, accepted and within the limits, and its goals
-/// are known.
+/// Words that ask for a job are answered by a report exactly if its files are there, accepted and
+/// within the limits, and its goals are known.
 pub fn complete_jobs_report()
     ensures { CompleteJobsReport }
 {}
@@ -42,13 +42,15 @@ pub fn system_is_meant()
     ensures { SystemIsMeant }
 {}
 
-/// In the kernel text of an index, goals name the classes of the packages that they name in the index.
+/// In the kernel text of an index, goals name the classes of the packages that they name in the
+/// index.
 pub fn stored_images_are_of_index()
     ensures { StoredImagesAreOfIndex }
 {}
 
-/// The kernel text of an index answers goals as the index does: yes, with classes in the place of the packages that are installed
-/// for them, no with the same log, undecided, or which goal is unknown.
+/// The kernel text of an index answers goals as the index does. Both say yes, with classes in the
+/// place of the packages that are installed for them. Or both say no with the same log, or are
+/// undecided, or name the same unknown goal.
 pub fn stored_answers_as_index()
     ensures { StoredAnswersAsIndex }
 {}

@@ -1,5 +1,5 @@
--- Packages that exclude each other by what they need: a healthy set with the package has a member of each of the
--- package's sides.
+-- Packages that exclude each other by what they need: a healthy set with the package has a member
+-- of each of the package's sides.
 use Rattle.std.specs.{Prelude.{ℕ, Bool, List, [], ◌∷◌, filter}, List.{list_all, list_any}}
 use Rattle.listed.specs.Lists.{has}
 use Rattle.row_book.specs.{Book.{listed_for}, Repository.{Repository, clauses_of}}
@@ -22,4 +22,5 @@ against_in table m n = has (listed_for table m) n
 
 -- the packages that conflict with the first and with each of the others, by the table
 abbrev pub common_to : List (List ℕ) → ℕ → List ℕ → List ℕ
-common_to table first others = filter (λ n. list_all (λ m. against_in table m n) others) (listed_for table first)
+common_to table first others =
+    filter (λ n. list_all (λ m. against_in table m n) others) (listed_for table first)

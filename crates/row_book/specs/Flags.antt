@@ -1,5 +1,4 @@
--- Sets of packages as rows of flags, one flag for each package, and the tests that tell which are
--- healthy.
+-- Sets of packages as rows of flags, one flag for each package, and the tests for healthy ones.
 use Rattle.std.specs.{Prelude.{◌≡◌, ℕ, Bool, true, false, not, ◌&&◌, ◌||◌, List, ◌++◌, length, slice_index_or}, List.{list_all, list_any, zip}}
 
 abbrev pub flag : List Bool → ℕ → Bool
@@ -23,7 +22,7 @@ abbrev pub is_solution : List (List (List ℕ)) → List (List ℕ) → List ℕ
 is_solution clauses conflicts wanted flags =
     is_abundant clauses flags && is_peaceful conflicts flags && list_all (flag flags) wanted
 
--- so many more flags make the row a healthy set with the wanted packages
+-- `left` more flags make the row a healthy set with the wanted packages
 pub record Extends (clauses : List (List (List ℕ))) (conflicts : List (List ℕ)) (wanted : List ℕ)
     (flags : List Bool) (left : ℕ) : Type 0 where
   pub more : List Bool

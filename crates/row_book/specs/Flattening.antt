@@ -1,7 +1,7 @@
--- Flattening: one package without conflicts after another is taken out, and the clauses of each
--- package are told in terms of those that are left: Vouillon and Di Cosmo, "On Software Component
--- Co-Installability", the section on flattening. With hold, which is not theirs, a package whose
--- elimination would make a row pass the clause limit stays.
+-- Flattening: packages without conflicts are taken out one after another, and the clauses of each
+-- package are put in terms of those that are left. This is the section on flattening of Vouillon
+-- and Di Cosmo, "On Software Component Co-Installability". Hold is not theirs: a package stays if
+-- its elimination would make a row pass the clause limit.
 use Rattle.std.specs.Prelude.{ℕ, zero, suc, Bool, false, not, ◌&&◌, ◌||◌, eqb, ltb, cond, List, [], ◌∷◌, map, length, Option, Some, None}
 use Rattle.std.specs.{List.{list_all, list_any, filter, find}, Option.{option_map}}
 use Rattle.row_book.specs.{Sets.{NumSet, plus, without}, Repository.{Repository, against}, Numbers.{numbers}, Support.{row}}
@@ -35,7 +35,8 @@ may_go R s q = s.left q && (not (has_conflict R q) && not (s.held q))
 abbrev pub row_length : Repository → NumSet → ℕ → ℕ
 row_length R V q = length (row R V q)
 
--- of two packages the first is taken out sooner: it has fewer clauses, or as many and the lesser number
+-- of two packages the first is taken out sooner: it has fewer clauses, or as many and the lesser
+-- number
 abbrev pub sooner : (ℕ → ℕ) → ℕ → ℕ → Bool
 sooner count q r = ltb (count q) (count r) || (eqb (count q) (count r) && ltb q r)
 
@@ -54,7 +55,8 @@ next_gone R s = soonest (row_length R s.left) (may_go R s) (packages R)
 unfoldable pub passes_over : ℕ → Repository → NumSet → Bool
 passes_over limit R V = list_any (λ p. ltb limit (row_length R V p)) (packages R)
 
--- the package is taken out; with hold it is held in place of that, where some row would pass the limit without it
+-- the package is taken out; with hold it is held instead, if some row would pass the limit without
+-- it
 abbrev pub gone_or_held : ℕ → Bool → Repository → Remaining → Option ℕ → Remaining
 gone_or_held limit hold R s None = s
 gone_or_held limit hold R s (Some q) =
@@ -62,14 +64,15 @@ gone_or_held limit hold R s (Some q) =
     (record { left = s.left; held = plus s.held q })
     (record { left = without s.left q; held = s.held })
 
--- what remains after so many steps of elimination
+-- what remains after this number of steps of elimination
 unfoldable pub remaining_after : ℕ → Bool → Repository → ℕ → Remaining
 remaining_after limit hold R zero = none_gone R
 remaining_after limit hold R (suc i) =
-    gone_or_held limit hold R (remaining_after limit hold R i) (next_gone R (remaining_after limit hold R i))
+    gone_or_held limit hold R (remaining_after limit hold R i)
+    (next_gone R (remaining_after limit hold R i))
 
--- what remains when none may go. Each step takes one package out or holds one, so this is reached after
--- as many steps as there are packages, at the latest, and then stays
+-- What remains when none may go. Each step takes one package out or holds one. So this is reached
+-- after as many steps as there are packages, at the latest, and then stays.
 abbrev pub at_last : ℕ → Bool → Repository → Remaining
 at_last limit hold R = remaining_after limit hold R (length R.clauses)
 
@@ -77,7 +80,7 @@ at_last limit hold R = remaining_after limit hold R (length R.clauses)
 abbrev pub core_of : ℕ → Bool → Repository → NumSet
 core_of limit hold R = (at_last limit hold R).left
 
--- those of them that are held, and the same as a list, ascending
+-- those of them that are held, as a test and as a list, ascending
 abbrev pub is_held : ℕ → Bool → Repository → NumSet
 is_held limit hold R = (at_last limit hold R).held
 
@@ -106,19 +109,22 @@ passed_by count ps limit i =
     (find (λ p. ltb limit (count p)) ps)
 
 abbrev pub passed_at : ℕ → Bool → Repository → ℕ → Option Passed
-passed_at limit hold R i = passed_by (row_length R (remaining_after limit hold R i).left) (packages R) limit i
+passed_at limit hold R i =
+    passed_by (row_length R (remaining_after limit hold R i).left) (packages R) limit i
 
 abbrev pub first_some : {A : Type 0} → List (Option A) → Option A
 first_some [] = None
 first_some (None ∷ xs) = first_some xs
 first_some (Some x ∷ xs) = Some x
 
--- the stages of elimination whose rows may pass the limit. With hold no step makes a row pass it, so that this is the first
--- stage alone, before any step. Without hold each step takes one package out, and after the core is reached no stage
--- differs from it: these are the first stage and one for each package
+-- The stages of elimination whose rows may pass the limit. With hold no step makes a row pass it,
+-- so that this is the first stage alone, before any step. Without hold each step takes one package
+-- out, and no stage after the core is reached differs from it. So these are the first stage and one
+-- for each package.
 abbrev pub stages_tried : Bool → Repository → List ℕ
 stages_tried hold R = numbers (cond hold 1 (suc (length R.clauses))) 0
 
--- the first of these stages, and there the least package, whose row has more clauses than the limit allows
+-- the first of these stages, and there the least package, whose row has more clauses than the limit
+-- allows
 unfoldable pub passes : ℕ → Bool → Repository → Option Passed
 passes limit hold R = first_some (map (passed_at limit hold R) (stages_tried hold R))

@@ -1,5 +1,6 @@
--- The first fault of a set of packages that is not healthy: the first clause that it does not hit, by the package's
--- number and by the clause's place in the package's row, and where it hits them all its first conflict.
+-- The first fault of a set of packages that is not healthy. It is the first clause that the set
+-- does not hit, by the package's number and by the clause's place in the package's row. If the set
+-- hits them all, it is its first conflict.
 use Rattle.std.specs.Prelude.{◌≡◌, ℕ, ◌<◌, ◌≤◌, true, List, [], ◌⊎◌, length, slice_index_or}
 use Rattle.row_book.specs.{Sets.{NumSet, Is, Hit}, Repository.{Repository, Satisfied, clauses_of}, Book.{listed_for}, declared.health.Unhealthy.{Unhealthy}}
 use Rattle.row_book.specs.declared.health.Unhealthy.TheVariants.{Unhit, Clash}
@@ -25,13 +26,14 @@ pub record IsClash (conflicts : List (List ℕ)) (I : NumSet) (m n : ℕ) : Type
 abbrev pub HasNoClash : List (List ℕ) → NumSet → Type 0
 HasNoClash conflicts I = (m n : ℕ) → IsClash conflicts I m n → ⊥
 
--- two packages of the set conflict, and no lesser pair of them, by its first and then by its second number, does
+-- two packages of the set conflict, and no lesser pair of them, by its first and then by its second
+-- number, does
 pub record IsFirstClash (conflicts : List (List ℕ)) (I : NumSet) (m n : ℕ) : Type 0 where
   pub clash : IsClash conflicts I m n
   pub least : (a b : ℕ) → IsClash conflicts I a b → (m < a) ⊎ ((m ≡ a) × (n ≤ b))
 
--- the package is chosen, its clause at the place is the first that the set does not hit, and the set hits each clause of
--- each lesser chosen package
+-- The package is chosen, and its clause at the place is the first that the set does not hit. The
+-- set hits each clause of each lesser chosen package.
 pub record UnhitFirst (R : Repository) (I : NumSet) (p k : ℕ) : Type 0 where
   pub chosen : Is I p
   pub clause : IsFirstUnhit (clauses_of R p) I k

@@ -1,5 +1,5 @@
--- Merging: packages with the same clauses and the same conflicts become one class. Vouillon and Di Cosmo, "On Software
--- Component Co-Installability", the section on equivalence classes.
+-- Merging: packages with the same clauses and the same conflicts become one class. Vouillon and Di
+-- Cosmo, "On Software Component Co-Installability", the section on equivalence classes.
 use Rattle.std.specs.{Prelude.{ℕ, suc, Bool, not, ◌&&◌, eqb, ltb, cond, List, [], ◌∷◌, map, filter, length, slice_index_or}, List.{list_any}}
 use Rattle.std.specs.Cmp.Lexicographic.{pointwise}
 use Rattle.row_book.specs.{Sets.{NumSet}, Repository.{Repository, against, clauses_of, conflicts_of}, Numbers.{numbers}, Flattening.{packages}}
@@ -9,13 +9,15 @@ use Rattle.clause_pool.specs.Clauses.{apart_from, minimal_of, in_row_order}
 -- whether two packages have the same clauses and the same conflicts
 abbrev pub are_alike : Repository → ℕ → ℕ → Bool
 are_alike R p q =
-    pointwise (pointwise eqb) (clauses_of R p) (clauses_of R q) && pointwise eqb (conflicts_of R p) (conflicts_of R q)
+    pointwise (pointwise eqb) (clauses_of R p) (clauses_of R q)
+    && pointwise eqb (conflicts_of R p) (conflicts_of R q)
 
 -- whether no lesser package is alike
 abbrev pub is_first : Repository → ℕ → Bool
 is_first R p = not (list_any (are_alike R p) (numbers p 0))
 
--- the least package of each class, ascending: the number of a class is the place of its own
+-- the least package of each class, ascending: the number of a class is the place of its least
+-- package
 unfoldable pub firsts : Repository → List ℕ
 firsts R = filter (is_first R) (packages R)
 
@@ -27,7 +29,7 @@ first_of R k = slice_index_or (firsts R) k 0
 abbrev pub classes : Repository → List ℕ
 classes R = numbers (length (firsts R)) 0
 
--- the place of the first number that passes the test, and else the length
+-- the place of the first number that passes the test, or the length if none does
 abbrev pub place_of : (ℕ → Bool) → List ℕ → ℕ
 place_of test [] = 0
 place_of test (x ∷ xs) = cond (test x) 0 (suc (place_of test xs))
@@ -52,10 +54,12 @@ members R K p = ltb p (length R.clauses) && K (class_of R p)
 abbrev pub clause_image : Repository → List ℕ → List ℕ
 clause_image R c = filter (image R (has c)) (classes R)
 
--- the clauses of a class: the images of the clauses of its least package, as all its packages have the same; of these those
--- that do not hold the class itself, and of them the minimal ones
+-- The clauses of a class. All its packages have the same clauses, so they are the images of the
+-- clauses of its least package. Of these only those are kept that do not hold the class itself, and
+-- of them the minimal ones.
 abbrev pub class_clauses : Repository → ℕ → List (List ℕ)
-class_clauses R k = in_row_order (minimal_of (apart_from k (map (clause_image R) (clauses_of R (first_of R k)))))
+class_clauses R k =
+    in_row_order (minimal_of (apart_from k (map (clause_image R) (clauses_of R (first_of R k)))))
 
 -- the classes that conflict with a class, as their packages do
 abbrev pub class_conflicts : Repository → ℕ → List ℕ
@@ -63,4 +67,7 @@ class_conflicts R k = filter (λ l. against R (first_of R k) (first_of R l)) (cl
 
 -- the merged repository
 unfoldable pub quotient : Repository → Repository
-quotient R = record { clauses = map (class_clauses R) (classes R); conflicts = map (class_conflicts R) (classes R) }
+quotient R = record {
+  clauses = map (class_clauses R) (classes R);
+  conflicts = map (class_conflicts R) (classes R);
+}

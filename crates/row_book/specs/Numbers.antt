@@ -1,7 +1,7 @@
 -- Numbers in a row, and the families of all sets of them.
 use Rattle.std.specs.Prelude.{ℕ, zero, suc, List, [], ◌∷◌, ◌++◌, map}
 
--- so many numbers, from the given one on
+-- `n` numbers, from the given one on
 unfoldable pub numbers : ℕ → ℕ → List ℕ
 numbers zero k = []
 numbers (suc n) k = k ∷ numbers n (suc k)
@@ -11,7 +11,7 @@ unfoldable pub nonempty_from : ℕ → ℕ → List (List ℕ)
 nonempty_from zero k = []
 nonempty_from (suc n) k = map (λ s. k ∷ s) ([] ∷ nonempty_from n (suc k)) ++ nonempty_from n (suc k)
 
--- all sets of numbers below n, in lexicographic order: 2 ^ n lists, so nothing but small examples
--- is computed by it
+-- all sets of numbers below n, in lexicographic order: these are 2 ^ n lists, so only small
+-- examples are computed
 unfoldable pub subsets : ℕ → List (List ℕ)
 subsets n = [] ∷ nonempty_from n 0

@@ -8,7 +8,7 @@ use Rattle.row_book.specs.{Book.{listed_for, are_paired}, declared.pair.Pair.{Pa
 abbrev pub NoLater : Pair → Pair → Type 0
 NoLater x y = (x.low < y.low) ⊎ ((x.low ≡ y.low) × (x.high ≤ y.high))
 
--- no pair comes later than one behind it
+-- no pair comes later than one that follows it in the list
 abbrev pub Rising : List Pair → Type 0
 Rising [] = Unit {0}
 Rising (x ∷ xs) = ((y : Pair) → In y xs → NoLater x y) × Rising xs
@@ -23,18 +23,19 @@ is_last [] n = false
 is_last (x ∷ []) n = eqb x n
 is_last (x ∷ (y ∷ ys)) n = is_last (y ∷ ys) n
 
--- the list with the number behind it, unless the number is the last already
+-- the list with the number appended, unless the number is the last already
 abbrev pub with_last : List ℕ → ℕ → List ℕ
 with_last xs n = cond (is_last xs n) xs (xs ++ n ∷ [])
 
--- the table has for each of so many packages, ascending, those that it is paired with
+-- the table has for each package below the size, ascending, those that it is paired with
 pub record ListsPairs (table : List (List ℕ)) (size : ℕ) (pairs : List Pair) : Type 0 where
   pub count : length table ≡ size
   pub ascending : (p : ℕ) → Ascending (listed_for table p)
   pub has_all : (p q : ℕ) → are_paired pairs p q ≡ true → In q (listed_for table p)
   pub only : (p q : ℕ) → In q (listed_for table p) → are_paired pairs p q ≡ true
 
--- in the new table each of the two packages is behind the other's list, unless it was the last there
+-- in the new table each of the two packages is appended to the other's list, unless it was the last
+-- there
 pub record Entered (table new : List (List ℕ)) (l h : ℕ) : Type 0 where
   pub count : length new ≡ length table
   pub low : listed_for new l ≡ with_last (listed_for table l) h

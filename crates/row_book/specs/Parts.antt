@@ -1,10 +1,10 @@
--- The part of a repository that some of its packages make: these alone, in their order and numbered anew, with what is left of
--- their clauses and conflicts.
+-- The part of a repository that some of its packages make: these alone, in their order and numbered
+-- anew, with what is left of their clauses and conflicts.
 use Rattle.std.specs.{Prelude.{ℕ, Bool, List, map, filter, length, slice_index_or, take}, List.{items_where_true, range_with_len}}
 use Rattle.clause_pool.specs.Clauses.{in_row_order}
 use Rattle.row_book.specs.{Flags.{flag}, Repository.{Repository}}
 
--- the number of a package among those whose flags are up: so many of them come before it
+-- the number of a package among those whose flags are up: how many of them come before it
 abbrev pub place_in : List Bool → ℕ → ℕ
 place_in flags n = length (filter (λ is_up. is_up) (take n flags))
 
@@ -22,7 +22,8 @@ part flags R = record {
   conflicts = map (chosen_in flags) (items_where_true flags R.conflicts);
 }
 
--- and back: the numbers of the packages whose flags are up, the number at a place, 0 past the last, and clauses of places as clauses of numbers
+-- And back: the numbers of the packages whose flags are up; the number at a place, 0 past the last;
+-- clauses of places as clauses of numbers.
 abbrev pub numbers_up : List Bool → List ℕ
 numbers_up flags = filter (flag flags) (range_with_len 0 (length flags))
 

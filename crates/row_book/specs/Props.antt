@@ -22,7 +22,8 @@ AreNeeds-prop clauses = hlevel IsNeed-prop
 
 abbrev pub repository_code : Coded Repository
 repository_code =
-    code_by (List (List (List ℕ)) × List (List ℕ)) (coded× (coded_list (coded_list (coded_list coded_ℕ))) (coded_list (coded_list coded_ℕ)))
+    code_by (List (List (List ℕ)) × List (List ℕ))
+    (coded× (coded_list (coded_list (coded_list coded_ℕ))) (coded_list (coded_list coded_ℕ)))
     (λ R. (R.clauses, R.conflicts)) (λ p. record { clauses = p.0; conflicts = p.1 }) (λ _. refl)
 
 -- two repositories are the same

@@ -1,5 +1,5 @@
--- Pruning: packages that cannot be installed get the empty clause alone, and clauses that are always hit, or may be hit
--- at no cost, are dropped.
+-- Pruning: packages that cannot be installed get the empty clause alone. Clauses that are always
+-- hit, or may be hit at no cost, are dropped.
 use Rattle.std.specs.Prelude.{ℕ, Bool, not, ◌&&◌, ◌||◌, eqb, cond, List, [], ◌∷◌, ◌++◌, filter, Option, Some, None, slice_set}
 use Rattle.std.specs.{List.{list_all, list_any, find}, Cmp.Lexicographic.{pointwise}}
 use Rattle.row_book.specs.{Sets.{NumSet, plus}, Repository.{Repository, against, clauses_of}, Flattening.{packages}, Facing.{sides, face}}
@@ -25,25 +25,29 @@ others R p d = filter (λ c. not (pointwise eqb c d)) (clauses_of R p)
 abbrev pub without_clause : Repository → ℕ → List ℕ → Repository
 without_clause R p d = with_clauses R p (others R p d)
 
--- whether a package that is installed sees to it that d is hit: it is in d, or has a clause within d
+-- whether a package that is installed sees to it that d is hit: it is in d, or has a clause within
+-- d
 abbrev pub serves : Repository → List ℕ → ℕ → Bool
 serves R d m = has d m || list_any (λ c. is_inside c d) (clauses_of R m)
 
--- whether the clause d of p is hit as soon as the others are: each member of one of these serves
+-- whether the clause d of p is hit as soon as the others are: each member of one of the others
+-- serves
 abbrev pub is_forced : Repository → ℕ → List ℕ → Bool
 is_forced R p d = list_any (λ e. list_all (serves R d) e) (others R p d)
 
--- whether y, which conflicts with a member of d, is out anyway where p is in and d is not hit: it is not p, and it is in d
--- itself, or conflicts with p, or with every member of another clause of p
+-- Whether y, which conflicts with a member of d, is out anyway if p is in and d is not hit. It is
+-- not p. It is in d itself, or conflicts with p, or with every member of another clause of p.
 abbrev pub is_harmless : Repository → ℕ → List ℕ → ℕ → Bool
 is_harmless R p d y =
-    not (eqb y p) && (has d y || (against R p y || list_any (λ e. list_all (against R y) e) (others R p d)))
+    not (eqb y p)
+    && (has d y || (against R p y || list_any (λ e. list_all (against R y) e) (others R p d)))
 
--- whether the clause c is hit wherever p is in and the clauses of p other than d are hit: it holds p, or includes one of these
+-- whether the clause c is hit whenever p is in and the clauses of p other than d are hit: it holds
+-- p, or includes one of these
 abbrev pub is_hit_anyway : Repository → ℕ → List ℕ → List ℕ → Bool
 is_hit_anyway R p d c = has c p || list_any (λ e. is_inside e c) (others R p d)
 
--- whether the member x of d can be put in wherever p is in and d is not hit
+-- whether the member x of d can be added whenever p is in and d is not hit
 abbrev pub is_idle : Repository → ℕ → List ℕ → ℕ → Bool
 is_idle R p d x =
     has d x
@@ -60,13 +64,13 @@ pub record IdleClause : Type 0 where
   pub clause : List ℕ
   pub added : ℕ
 
--- the step of an idle clause, where one of its members serves
+-- the step of an idle clause, if one of its members serves
 abbrev pub step_by : ℕ → List ℕ → Option ℕ → List IdleClause
 step_by p d None = []
 step_by p d (Some x) = record { «package» = p; clause = d; added = x } ∷ []
 
--- what is left of a repository, and the steps that a healthy set of it has to be taken back through: the clauses that were
--- dropped as idle, in order
+-- What is left of a repository, and the steps that a healthy set of it has to be taken back
+-- through. These are the clauses that were dropped as idle, in order.
 pub record LeftByPruning : Type 0 where
   pub left : Repository
   pub steps : List IdleClause
@@ -88,7 +92,8 @@ prune_clause R p d = record {
 -- one clause after another, each in what is left
 abbrev pub prune_clauses : Repository → ℕ → List (List ℕ) → LeftByPruning
 prune_clauses R p [] = untouched R
-prune_clauses R p (d ∷ ds) = then_pruned (prune_clause R p d) (prune_clauses (prune_clause R p d).left p ds)
+prune_clauses R p (d ∷ ds) =
+    then_pruned (prune_clause R p d) (prune_clauses (prune_clause R p d).left p ds)
 
 -- the package gets the empty clause alone, which is no step
 abbrev pub made_dead : Repository → ℕ → LeftByPruning
@@ -110,7 +115,7 @@ prune R = (prune_over R (packages R)).left
 unfoldable pub idle_steps : Repository → List IdleClause
 idle_steps R = (prune_over R (packages R)).steps
 
--- the set with x put in, where p is there and nothing of d is
+-- the set with x added, if p is in it and nothing of d is
 abbrev pub lift_idle : NumSet → ℕ → List ℕ → ℕ → NumSet
 lift_idle I p d x = cond (I p && not (list_any I d)) (plus I x) I
 

@@ -23,14 +23,14 @@ against R p q = has (conflicts_of R p) q
 abbrev pub Satisfied : Repository → (ℕ → Type 0) → ℕ → Type 0
 Satisfied R A p = (c : List ℕ) → In c (clauses_of R p) → Hit A c
 
--- a healthy set: packages with abundance (each clause of each member is hit by the set) and peace
--- (no two members conflict, and none with itself)
+-- A healthy set is a set of packages with abundance and peace. Abundance: each clause of each
+-- member is hit by the set. Peace: no two members conflict, and none with itself.
 pub record Healthy (R : Repository) (I : NumSet) : Type 0 where
   pub packages : (n : ℕ) → Is I n → n < length R.clauses
   pub abundance : (n : ℕ) → Is I n → Satisfied R (Is I) n
   pub peace : (m n : ℕ) → Is I m → Is I n → against R m n ≡ false
 
--- a set is co-installable where some healthy set contains it
+-- a set is co-installable if some healthy set contains it
 pub record Coinst (R : Repository) (S : NumSet) : Type 0 where
   pub whole : NumSet
   pub healthy : Healthy R whole

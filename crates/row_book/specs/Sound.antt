@@ -7,17 +7,18 @@ use Rattle.listed.specs.Lists.{In, Ascending, Inside}
 abbrev pub OfPackages : Repository → NumSet → Type 0
 OfPackages R V = (n : ℕ) → V n ≡ true → n < length R.clauses
 
--- each clause is ascending and has packages alone
+-- each clause is ascending and only has packages
 abbrev pub SoundClauses : Repository → Type 0
 SoundClauses R = (p : ℕ) (c : List ℕ) → In c (clauses_of R p) →
     Ascending c × ((n : ℕ) → In n c → n < length R.clauses)
 
 -- conflicts are between packages
 abbrev pub BetweenPackages : Repository → Type 0
-BetweenPackages R = (m n : ℕ) → against R m n ≡ true → (m < length R.clauses) × (n < length R.clauses)
+BetweenPackages R = (m n : ℕ) → against R m n ≡ true →
+    (m < length R.clauses) × (n < length R.clauses)
 
--- a sound repository: sound clauses, and a list of conflicts for each package, strictly ascending, either way round, and
--- without the package itself
+-- A sound repository: sound clauses, and for each package a list of conflicts. The lists are
+-- strictly ascending, go either way round, and do not have the package itself.
 pub record SoundRepository (R : Repository) : Type 0 where
   pub clauses : SoundClauses R
   pub count : length R.conflicts ≡ length R.clauses
@@ -27,4 +28,5 @@ pub record SoundRepository (R : Repository) : Type 0 where
 pub record TidyRepository (R : Repository) : Type 0 where
   pub sound : SoundRepository R
   pub apart : (p : ℕ) (c : List ℕ) → In c (clauses_of R p) → In p c → ⊥
-  pub minimal : (p : ℕ) (c d : List ℕ) → In c (clauses_of R p) → In d (clauses_of R p) → Inside c d → c ≡ d
+  pub minimal : (p : ℕ) (c d : List ℕ) → In c (clauses_of R p) →
+      In d (clauses_of R p) → Inside c d → c ≡ d

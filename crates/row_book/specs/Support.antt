@@ -1,7 +1,7 @@
 -- Support of a package by others, the sets that block it, and its row. A package without conflicts
--- can be put into any installation as soon as its clauses are hit, so the clauses of a package may
--- be told in terms of the packages with conflicts alone: Vouillon and Di Cosmo, "On Software
--- Component Co-Installability", the section on flattening.
+-- can be added to any installation as soon as its clauses are hit. So the clauses of a package can
+-- be put in terms of the packages with conflicts alone. This is the section on flattening of
+-- Vouillon and Di Cosmo, "On Software Component Co-Installability".
 use Rattle.std.specs.{Prelude.{◌≡◌, ◌≢◌, ℕ, ◌<◌, Bool, false, not, ◌&&◌, ◌||◌, eqb, List, ◌∷◌, ◌⊎◌, length}, List.{list_all, list_any, filter}}
 use Rattle.row_book.specs.{Sets.{NumSet, Is, minus, without}, Repository.{Repository, Satisfied, clauses_of}, Numbers.{subsets}}
 use Rattle.listed.specs.Lists.{In, has, Ascending, Inside, is_inside}
@@ -10,8 +10,8 @@ use Rattle.listed.specs.Lists.{In, has, Ascending, Inside, is_inside}
 abbrev pub Alive : NumSet → NumSet → ℕ → ℕ → Type 0
 Alive X J p n = Is X n ⊎ (Is J n ⊎ (n ≡ p))
 
--- X supports p over V: there are helpers, packages outside V, such that each clause of each helper
--- and each clause of p is hit by X, the helpers and p together
+-- X supports p over V: there are helpers, packages outside V, such that X, the helpers and p
+-- together hit each clause of each helper and of p
 pub record Support (R : Repository) (V : NumSet) (p : ℕ) (X : NumSet) : Type 0 where
   pub helpers : NumSet
   pub packages : (n : ℕ) → Is helpers n → n < length R.clauses
@@ -19,7 +19,8 @@ pub record Support (R : Repository) (V : NumSet) (p : ℕ) (X : NumSet) : Type 0
   pub own : Satisfied R (Alive X helpers p) p
   pub others : (n : ℕ) → Is helpers n → Satisfied R (Alive X helpers p) n
 
--- a blocking set of p over V: members of V other than p, without which V does not support p
+-- a blocking set of p over V: members of V other than p, such that V without them does not support
+-- p
 pub record Blocks (R : Repository) (V : NumSet) (p : ℕ) (T : List ℕ) : Type 0 where
   pub within : (n : ℕ) → In n T → Is V n
   pub apart : (n : ℕ) → In n T → n ≢ p
@@ -36,15 +37,16 @@ pub record IsRow (R : Repository) (V : NumSet) (p : ℕ) (clauses : List (List �
   pub sound : (T : List ℕ) → In T clauses → MinimalBlock R V p T
   pub whole : (T : List ℕ) → MinimalBlock R V p T → In T clauses
 
--- The same as tests, over all sets of packages: the row as a list that a definition can name. From
--- `is_supported` on each is exponential in the number of packages, so only small examples are computed.
+-- The definitions above as tests, over all sets of packages: the row is a list that a definition
+-- can name. From `is_supported` on each is exponential in the number of packages, so only small
+-- examples are computed.
 
 -- the members of X and of the list J and the package p together
 abbrev pub among : NumSet → List ℕ → ℕ → NumSet
 among X J p n = X n || (has J n || eqb n p)
 
--- whether X supports p over V with the helpers J: they are outside V, and each clause of p and of each helper is hit by X, J
--- and p together
+-- whether X supports p over V with the helpers J: they are outside V, and X, J and p together hit
+-- each clause of p and of each helper
 unfoldable pub supports : Repository → NumSet → ℕ → NumSet → List ℕ → Bool
 supports R V p X J =
     list_all (λ n. not (V n)) J
@@ -62,7 +64,8 @@ blocks R V p T = list_all (without V p) T && not (is_supported R V p (minus V T)
 unfoldable pub is_minimal_block : Repository → NumSet → ℕ → List ℕ → Bool
 is_minimal_block R V p T =
     blocks R V p T
-    && list_all (λ S. not (blocks R V p S && is_inside S T) || is_inside T S) (subsets (length R.clauses))
+    && list_all (λ S.
+    not (blocks R V p S && is_inside S T) || is_inside T S) (subsets (length R.clauses))
 
 -- the row of p over V, in lexicographic order
 unfoldable pub row : Repository → NumSet → ℕ → List (List ℕ)

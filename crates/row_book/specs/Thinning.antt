@@ -1,4 +1,5 @@
--- Thinning: a conflict is dropped where two packages exclude each other by other conflicts already.
+-- Thinning: a conflict is dropped if the two packages exclude each other by other conflicts
+-- already.
 use Rattle.std.specs.Prelude.{ℕ, Bool, not, ◌&&◌, ◌||◌, eqb, cond, List, [], ◌∷◌, ◌++◌, map, filter}
 use Rattle.row_book.specs.{Repository.{Repository, against, conflicts_of}, Flattening.{packages}, Facing.{sides, face}}
 
@@ -29,7 +30,7 @@ abbrev pub thin_over : Repository → List (ℕ × ℕ) → Repository
 thin_over R [] = R
 thin_over R (w ∷ ws) = thin_over (thin_pair R w.0 w.1) ws
 
--- all pairs of the numbers, of each the one that stands first before the other
+-- all pairs of the numbers, in each the one that comes first in the list first
 abbrev pub all_pairs : List ℕ → List (ℕ × ℕ)
 all_pairs [] = []
 all_pairs (a ∷ ns) = map (λ b. (a, b)) ns ++ all_pairs ns

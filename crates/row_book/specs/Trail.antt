@@ -1,4 +1,4 @@
--- What a step of a trail tells of the pool that its books are of.
+-- What a step of a trail means, with the pool that its books are of.
 use Rattle.std.specs.Prelude.{List, map}
 use Rattle.clause_pool.specs.Interned.{Interned}
 use Rattle.listed.specs.Lists.{In}
@@ -7,7 +7,8 @@ use Rattle.row_book.specs.declared.trail.Step.TheVariants.{Flat, Idle, Merge}
 
 abbrev pub step_meaning : Interned → Step → RoundStep
 step_meaning pool (Flat before) = FlatStep (repository_of pool before)
-step_meaning pool (Idle «package» clause added) = IdleStep (record { «package» = «package»; clause = clause; added = added })
+step_meaning pool (Idle «package» clause added) =
+    IdleStep (record { «package» = «package»; clause = clause; added = added })
 step_meaning pool (Merge class_of) = MergeStep class_of
 
 abbrev pub trail_meaning : Interned → List Step → List RoundStep

@@ -35,16 +35,18 @@ pub record IsListOf (S : NumSet) (xs : List ℕ) : Type 0 where
   pub ascending : Ascending xs
   pub members : (m : ℕ) → has xs m ≡ S m
 
--- the place of the number in the list, or the place between the lesser and the greater ones where it is not there
+-- the place of the number in the list, or the place between the lesser and the greater ones if it
+-- is not there
 abbrev pub IsPlaceOf : List ℕ → ℕ → Result ℕ ℕ → Type 0
 IsPlaceOf xs n (Ok i) = (i < length xs) × (slice_index_or xs i 0 ≡ n)
-IsPlaceOf xs n (Err i) = (i ≤ length xs) × ((k : ℕ) → k < i → slice_index_or xs k 0 < n) × ((k : ℕ) → i ≤ k → k < length xs → n < slice_index_or xs k 0)
+IsPlaceOf xs n (Err i) = (i ≤ length xs) × ((k : ℕ) → k < i → slice_index_or xs k 0 < n)
+    × ((k : ℕ) → i ≤ k → k < length xs → n < slice_index_or xs k 0)
 
 -- the lists of a table
 abbrev pub lists_in : List (Vec ℕ) → List (List ℕ)
 lists_in table = map (λ v. v.items) table
 
--- the list of a number in a table, empty where the table has none
+-- the list of a number in a table; empty if the table has none
 abbrev pub list_in : List (Vec ℕ) → ℕ → List ℕ
 list_in table n = slice_index_or (lists_in table) n []
 

@@ -30,8 +30,8 @@ impl Book {
     ghost use Rattle.clause_pool.specs.Compacting.{RowsOf};
     ghost use Rattle.row_book.specs.Book.{listed_for, lists_of_pairs, NumbersFit, PairsFit, Sound};
 
-    /// The book of these rows of the pool, in which the packages of each pair conflict; it fails only where no memory is
-    /// found. A pair may stand twice.
+    /// The book of these rows of the pool, in which the packages of each pair conflict. A pair may
+    /// be listed twice.
     pub fn build(
         alloc: Global,
         pool: &Pool,
@@ -43,10 +43,12 @@ impl Book {
         requires numbers { NumbersFit pool.now rows.now }
         requires pairs { PairsFit pairs.now (length rows.now) }
         ensures rows { IfOk result (λ book. book.rows ≡ rows.now) }
-        ensures conflicts { IfOk result (λ book. book.conflicts ≡ lists_of_pairs pairs.now (length rows.now)) }
+        ensures conflicts { IfOk result (λ book. book.conflicts
+            ≡ lists_of_pairs pairs.now (length rows.now)) }
         ensures sound { IfOk result (Sound pool.now) }
     {
-        // What holds of every pool is told by this call alone; a sound book tells it on.
+        // This call is here for its contract: what holds of every pool. From here on the sound book
+        // says so.
         pool.clause_count();
         let conflicts = conflict_lists(alloc, pairs, rows.len())?;
         let rows = Vec::from_slice(alloc, rows)?;
@@ -56,7 +58,7 @@ impl Book {
         })
     }
 
-    /// A book with the same conflicts and these rows; it fails only where no memory is found.
+    /// A book with the same conflicts and these rows.
     pub fn with_rows(&self, alloc: Global, rows: RowList) -> Result<Book, AllocError>
         requires { length rows ≡ length self.now.rows }
         ensures rows { IfOk result (λ book. book.rows ≡ rows) }
@@ -69,7 +71,7 @@ impl Book {
         })
     }
 
-    /// A book with the same rows and conflicts; it fails only where no memory is found.
+    /// A book with the same rows and conflicts.
     pub fn copy(&self, alloc: Global) -> Result<Book, AllocError>
         ensures rows { IfOk result (λ book. book.rows ≡ self.now.rows) }
         ensures conflicts { IfOk result (λ book. book.conflicts ≡ self.now.conflicts) }
@@ -78,14 +80,14 @@ impl Book {
         self.with_rows(alloc, Listed::of(rows))
     }
 
-    /// The number of packages; it takes no memory.
+    /// The number of packages.
     pub fn size(&self) -> u32
         ensures { result ≡ length self.now.rows }
     {
         self.rows.as_slice().len() as u32
     }
 
-    /// The row of a package below the size; it takes no memory.
+    /// The row of a package below the size.
     pub fn row(&self, number: u32) -> RowId
         requires { number < length self.now.rows }
         ensures { result ≡ slice_index_or self.now.rows number 0 }
@@ -93,7 +95,7 @@ impl Book {
         self.rows.as_slice()[number as usize]
     }
 
-    /// Lends the packages that conflict with a package below the size, in a sound book ascending; it takes no memory.
+    /// Lends the packages that conflict with a package below the size, in a sound book ascending.
     pub fn against(&self, number: u32) -> &[u32]
         requires { number < length self.now.rows }
         ensures { result.now ≡ listed_for self.now.conflicts number }
@@ -101,7 +103,7 @@ impl Book {
         self.conflicts.as_slice()[number as usize].as_slice()
     }
 
-    /// Whether the second package is among the conflicts of the first, both below the size; it takes no memory.
+    /// Whether the second package is among the conflicts of the first, both below the size.
     pub fn conflicts_with(&self, a: u32, b: u32) -> bool
         requires a { a < length self.now.rows }
         requires b { b < length self.now.rows }
@@ -111,7 +113,7 @@ impl Book {
     }
 }
 
-/// The same lists.
+/// A copy of the lists.
 fn copied(alloc: Global, lists: &[NumList]) -> Result<Vec<NumList>, AllocError>
     ensures { IfOk result (λ made. made.items ≡ lists.now) }
 {

@@ -6,7 +6,7 @@ ghost use Rattle.row_book.specs.Uses.{HoldsDifference};
 use clause_pool::{ClauseId, Pool};
 use std::alloc::{AllocError, Global};
 
-/// The clauses that one of two rows has alone; where the rows are in order, no others.
+/// The clauses that only one of two rows has. If the rows are not in order, there may be others.
 #[derive(Drop)]
 pub(crate) struct Changes {
     /// The clauses of the old row that the new one does not have.
@@ -33,8 +33,8 @@ pub(crate) fn changes_between(
     Ok(Changes { lost, gained })
 }
 
-/// Notes the changes from the old row to the new one in two empty lists, by a walk over both rows side by side: of two
-/// clauses that differ the one that comes first in order is passed.
+/// Notes the changes from the old row to the new one in two empty lists, by a walk over both rows
+/// side by side. Of two clauses that differ, the one that comes first in order is passed.
 fn note_changes(
     pool: &Pool,
     old: &[ClauseId],

@@ -12,11 +12,12 @@ use listed::{empty_vectors, holds_ascending};
 use std::alloc::{AllocError, Global};
 use std::marker::Model;
 
-/// For each clause of a pool the packages whose rows have it, and for each package the clauses that hold it. A clause that
-/// many rows share stands here once, so the table is no larger than what the rows and their clauses hold, or held.
+/// For each clause of a pool the packages whose rows have it, and for each package the clauses that
+/// hold it. A clause that many rows share is here once, so the table is no larger than what the
+/// rows and their clauses hold, or held.
 ///
-/// Nothing is searched in a list or moved up in it: a package is put behind the others, and stays there when its row loses
-/// the clause. Whether it still has it is looked up in its row, when users are asked for.
+/// No list is searched and none is shifted: a package is appended, and stays when its row loses the
+/// clause. Whether its row still has the clause is looked up when users are asked for.
 #[derive(Drop)]
 pub struct ClauseTable {
     users: Vec<Vec<u32>>,
@@ -32,7 +33,7 @@ impl Model for ClauseTable {
 }
 
 impl ClauseTable {
-    /// The table of the rows; it fails only where no memory is found.
+    /// The table of the rows.
     pub fn of(alloc: Global, pool: &Pool, rows: &[IdList]) -> Result<ClauseTable, AllocError>
         requires few { length rows.now < u32.MAX }
         requires fit { ListsFit pool.now rows.now }
@@ -45,8 +46,8 @@ impl ClauseTable {
         Ok(ClauseTable { users, clauses })
     }
 
-    /// The packages whose row has a clause that holds the given one, ascending, in a table of the rows; it fails only where
-    /// no memory is found.
+    /// The packages whose row has a clause that holds the given one, ascending, in a table of the
+    /// rows.
     pub fn users(
         &self,
         alloc: Global,
@@ -55,22 +56,25 @@ impl ClauseTable {
         number: u32,
     ) -> Result<Vec<u32>, AllocError>
         requires { ListsFit pool.now rows.now }
-        ensures { IfOk result (λ found. TellsRows pool.now rows.now self.now → found.items ≡ users_in pool.now rows.now number) }
+        ensures { IfOk result (λ found. TellsRows pool.now rows.now self.now →
+            found.items ≡ users_in pool.now rows.now number) }
     {
         let clauses = list_at(self.clauses.as_slice(), number);
         let had = users_among(alloc, self.users.as_slice(), clauses)?;
         Ok(users_still(pool, rows, had, number, clauses))
     }
 
-    /// Lends the places of clauses that hold a package: in a table of rows all of those that a row has; it takes no memory.
+    /// Lends the places of clauses that hold a package: in a table of rows all of those that a row
+    /// has.
     pub fn clauses_with(&self, number: u32) -> &[u32]
         ensures { result.now ≡ listed_for self.now.clauses number }
     {
         list_at(self.clauses.as_slice(), number)
     }
 
-    /// Puts a new row in the place of the old one of a package: a table of rows in which the package has the old row is
-    /// then that of the same rows with the new one there. Where no memory is found, it is still that of the rows.
+    /// Replaces the old row of a package by a new one. If the table is that of rows in which the
+    /// package has the old row, it is then that of the same rows with the new one there. If memory
+    /// runs out, it is still that of the rows.
     pub fn replace(
         &mut self,
         alloc: Global,
@@ -81,10 +85,14 @@ impl ClauseTable {
     ) -> Result<(), AllocError>
         requires old { OfPool pool.now old.now }
         requires new { OfPool pool.now new.now }
-        requires numbers { (c : ℕ) → In c new.now → (n : ℕ) → In n (clause_at pool.now c) → n < length self.old.clauses }
-        ensures ok { OnOk result ((rows : List (List ℕ)) → number < length rows → listed_for rows number ≡ old.now →
-            TellsRows pool.now rows self.old → TellsRows pool.now (slice_set rows number new.now) self.new) }
-        ensures err { OnErr result ((rows : List (List ℕ)) → TellsRows pool.now rows self.old → TellsRows pool.now rows self.new) }
+        requires numbers { (c : ℕ) → In c new.now → (n : ℕ) → In n (clause_at pool.now c) →
+            n < length self.old.clauses }
+        ensures ok { OnOk result ((rows : List (List ℕ)) → number < length rows →
+            listed_for rows number ≡ old.now →
+            TellsRows pool.now rows self.old →
+            TellsRows pool.now (slice_set rows number new.now) self.new) }
+        ensures err { OnErr result ((rows : List (List ℕ)) → TellsRows pool.now rows self.old →
+            TellsRows pool.now rows self.new) }
     {
         let came = gained_between(alloc, pool, old, new)?;
         make_lists(&mut self.users, pool.clause_count())?;
@@ -95,8 +103,9 @@ impl ClauseTable {
         Ok(())
     }
 
-    /// Gives back the lists of a package and of the users of its clauses: a table of rows none of which has a clause that
-    /// holds it stays that of these rows. Otherwise each other member of a long clause would go through its users again.
+    /// Gives back the lists of a package and of the users of its clauses. If no clause of some rows
+    /// holds the package, the table of these rows stays theirs. Otherwise each other member of a
+    /// long clause would go through its users again.
     pub fn forget(&mut self, number: u32)
         ensures { (pool : Interned) (rows : List (List ℕ)) → users_in pool rows number ≡ [] →
             TellsRows pool rows self.old → TellsRows pool rows self.new }
@@ -129,8 +138,8 @@ fn enter_rows(
     Ok(())
 }
 
-/// Puts a package to the users of clauses, each of which is listed for its numbers where it had no user. Where no memory is
-/// found, it has been put to some of them.
+/// Adds a package as user of each clause. A clause without users is first listed under its numbers.
+/// If memory runs out, the package is a user of some of them.
 fn enter_all(
     pool: &Pool,
     users: &mut [Vec<u32>],
@@ -140,10 +149,12 @@ fn enter_all(
 ) -> Result<(), AllocError>
     requires of_pool { OfPool pool.now ids.now }
     requires there { length pool.now.clauses ≤ length users.old }
-    requires numbers { (c : ℕ) → In c ids.now → (n : ℕ) → In n (clause_at pool.now c) → n < length clauses.old }
+    requires numbers { (c : ℕ) → In c ids.now → (n : ℕ) → In n (clause_at pool.now c) →
+        n < length clauses.old }
     ensures entered { OnOk result ((c : ℕ) → In c ids.now → In number (list_in users.new c)) }
     ensures users { HasAll (lists_in users.old) (lists_in users.new) }
-    ensures lists { ListsClauses pool.now (holders_in users.old clauses.old) → ListsClauses pool.now (holders_in users.new clauses.new) }
+    ensures lists { ListsClauses pool.now (holders_in users.old clauses.old) →
+        ListsClauses pool.now (holders_in users.new clauses.new) }
 {
     for id in ids {
         enter(pool, users, clauses, *id, number)?;
@@ -151,7 +162,8 @@ fn enter_all(
     Ok(())
 }
 
-/// Puts a package to the users of a clause, which is listed for its numbers where it had no user.
+/// Adds a package as user of a clause. If the clause has no user, it is first listed under its
+/// numbers.
 fn enter(
     pool: &Pool,
     users: &mut [Vec<u32>],
@@ -164,14 +176,16 @@ fn enter(
     requires numbers { (n : ℕ) → In n (clause_at pool.now id) → n < length clauses.old }
     ensures entered { OnOk result (In number (list_in users.new id)) }
     ensures users { HasAll (lists_in users.old) (lists_in users.new) }
-    ensures lists { ListsClauses pool.now (holders_in users.old clauses.old) → ListsClauses pool.now (holders_in users.new clauses.new) }
+    ensures lists { ListsClauses pool.now (holders_in users.old clauses.old) →
+        ListsClauses pool.now (holders_in users.new clauses.new) }
 {
     let place = small_place(id)?;
     list_unused(pool, users, clauses, id, place)?;
     push_to(users, place, number)
 }
 
-/// Lists a clause for each of its numbers, if it has no user; where no memory is found, for some of them.
+/// Lists a clause under each of its numbers, if it has no user. If memory runs out, it is listed
+/// under some of them.
 fn list_unused(
     pool: &Pool,
     users: &[Vec<u32>],
@@ -182,9 +196,11 @@ fn list_unused(
     requires id { id < length pool.now.clauses }
     requires place { place ≡ id }
     requires numbers { (n : ℕ) → In n (clause_at pool.now id) → n < length clauses.old }
-    ensures there { OnOk result (list_in users.now id ≡ [] → (n : ℕ) → In n (clause_at pool.now id) → In id (list_in clauses.new n)) }
+    ensures there { OnOk result (list_in users.now id ≡ [] →
+        (n : ℕ) → In n (clause_at pool.now id) → In id (list_in clauses.new n)) }
     ensures stays { HasAll (lists_in clauses.old) (lists_in clauses.new) }
-    ensures came { GainsOnly (clause_at pool.now id) id (lists_in clauses.old) (lists_in clauses.new) }
+    ensures came { GainsOnly (clause_at pool.now id) id (lists_in clauses.old)
+        (lists_in clauses.new) }
 {
     if !list_at(users, place).is_empty() {
         return Ok(());
@@ -192,7 +208,7 @@ fn list_unused(
     push_to_each(clauses, pool.slice(id), place)
 }
 
-/// The place of a clause in its pool. One that a `u32` does not hold counts as want of memory.
+/// The place of a clause in its pool. If a `u32` cannot hold it, this counts as want of memory.
 fn small_place(id: ClauseId) -> Result<u32, AllocError>
     ensures { IfOk result (λ place. place ≡ id) }
 {
@@ -203,7 +219,7 @@ fn small_place(id: ClauseId) -> Result<u32, AllocError>
     Ok(place as u32)
 }
 
-/// Puts an item behind the others in the list of each of the numbers; where no memory is found, it was put into some.
+/// Appends an item to the list of each of the numbers. If memory runs out, it is in some of them.
 fn push_to_each(lists: &mut [Vec<u32>], numbers: &[u32], item: u32) -> Result<(), AllocError>
     requires { (n : ℕ) → In n numbers.now → n < length lists.old }
     ensures there { OnOk result ((n : ℕ) → In n numbers.now → In item (list_in lists.new n)) }
@@ -216,7 +232,7 @@ fn push_to_each(lists: &mut [Vec<u32>], numbers: &[u32], item: u32) -> Result<()
     Ok(())
 }
 
-/// Puts an item behind the others in the list of a number; where no memory is found, the list stays.
+/// Appends an item to the list of a number. If memory runs out, the list stays.
 fn push_to(lists: &mut [Vec<u32>], number: u32, item: u32) -> Result<(), AllocError>
     requires { number < length lists.old }
     ensures there { OnOk result (In item (list_in lists.new number)) }
@@ -227,7 +243,7 @@ fn push_to(lists: &mut [Vec<u32>], number: u32, item: u32) -> Result<(), AllocEr
     Ok(())
 }
 
-/// Puts empty lists behind the others until there are so many.
+/// Appends empty lists until there are `count`.
 fn make_lists(lists: &mut Vec<Vec<u32>>, count: u64) -> Result<(), AllocError>
     ensures there { OnOk result (count ≤ length lists.new.items) }
     ensures same { (n : ℕ) → list_in lists.new.items n ≡ list_in lists.old.items n }
@@ -250,7 +266,7 @@ fn empty_each(alloc: Global, lists: &mut [Vec<u32>], numbers: &[u32])
     }
 }
 
-/// Gives back the list of a number, where there is one.
+/// Gives back the list of a number, if there is one.
 fn empty_one(alloc: Global, lists: &mut [Vec<u32>], number: u32)
     ensures empty { list_in lists.new number ≡ [] }
     ensures others { (n : ℕ) → n ≢ number → list_in lists.new n ≡ list_in lists.old n }
@@ -262,7 +278,8 @@ fn empty_one(alloc: Global, lists: &mut [Vec<u32>], number: u32)
 
 /// The users of clauses, each once and ascending.
 fn users_among(alloc: Global, users: &[Vec<u32>], places: &[u32]) -> Result<Vec<u32>, AllocError>
-    ensures { IfOk result (λ found. IsListOf (λ m. list_any (λ c. has (list_in users.now c) m) places.now) found.items) }
+    ensures { IfOk result (λ found.
+        IsListOf (λ m. list_any (λ c. has (list_in users.now c) m) places.now) found.items) }
 {
     let mut found = Vec::new(alloc);
     for place in places {
@@ -273,8 +290,8 @@ fn users_among(alloc: Global, users: &[Vec<u32>], places: &[u32]) -> Result<Vec<
     Ok(found)
 }
 
-/// Those of the packages whose row has a clause that holds the number. The places are those of such clauses, and none that a
-/// row has is missing.
+/// Those of the packages whose row has a clause that holds the number. The places are those of such
+/// clauses, and none that a row has is missing.
 fn users_still(
     pool: &Pool,
     rows: &[IdList],
@@ -294,7 +311,8 @@ fn users_still(
 /// Whether the package is one of the rows' and its row has a clause that holds the number.
 fn is_user(pool: &Pool, rows: &[IdList], user: u32, number: u32, places: &[u32]) -> bool
     requires { ListsFit pool.now rows.now }
-    ensures { ArePlaced pool.now number places.now (listed_for rows.now user) → result ≡ is_user pool.now rows.now number user }
+    ensures { ArePlaced pool.now number places.now (listed_for rows.now user) →
+        result ≡ is_user pool.now rows.now number user }
 {
     match rows.get(user as usize) {
         Some(row) => some_holds(pool, row.as_slice(), number, places),
@@ -305,7 +323,8 @@ fn is_user(pool: &Pool, rows: &[IdList], user: u32, number: u32, places: &[u32])
 /// Whether one of the clauses holds the number.
 fn some_holds(pool: &Pool, ids: &[ClauseId], number: u32, places: &[u32]) -> bool
     requires { OfPool pool.now ids.now }
-    ensures { ArePlaced pool.now number places.now ids.now → result ≡ ids_hold pool.now number ids.now }
+    ensures { ArePlaced pool.now number places.now ids.now →
+        result ≡ ids_hold pool.now number ids.now }
 {
     for id in ids {
         if clause_holds(pool, *id, number, places) {
@@ -315,13 +334,14 @@ fn some_holds(pool: &Pool, ids: &[ClauseId], number: u32, places: &[u32]) -> boo
     false
 }
 
-/// So few places that they are looked at one by one.
+/// Up to this number of places they are looked at one by one.
 const FEW: usize = 8;
 
-/// Whether a clause holds a number, where it does exactly if its place is one of these.
+/// Whether a clause holds a number, given the places of those that do.
 pub fn clause_holds(pool: &Pool, id: ClauseId, number: u32, places: &[u32]) -> bool
     requires { id < length pool.now.clauses }
-    ensures { has places.now id ≡ has (clause_at pool.now id) number → result ≡ has (clause_at pool.now id) number }
+    ensures { has places.now id ≡ has (clause_at pool.now id) number →
+        result ≡ has (clause_at pool.now id) number }
 {
     if places.len() > FEW {
         return holds_ascending(pool.slice(id), number);
@@ -341,7 +361,7 @@ fn is_one_of(places: &[u32], id: ClauseId) -> bool
     false
 }
 
-/// Lends the list at a place, which is empty where there is none.
+/// Lends the list at a place. It is empty if there is none.
 fn list_at(lists: &[Vec<u32>], place: u32) -> &[u32]
     ensures { result.now ≡ list_in lists.now place }
 {

@@ -6,11 +6,13 @@ ghost use Rattle.row_book.specs.{Book.{repository_of, Sound}, Rounds.{is_same_re
 use crate::book::Book;
 use clause_pool::{NumList, Pool, RowId};
 
-/// Whether two books, each in a pool of its own, are of the same repository. A yes is right; what a no says is not promised.
+/// Whether two books, each in a pool of its own, are of the same repository. A yes is right; a no
+/// promises nothing.
 pub fn is_same_book(pool: &Pool, book: &Book, other_pool: &Pool, other: &Book) -> bool
     requires one { Sound pool.now book.now }
     requires other { Sound other_pool.now other.now }
-    ensures { OnTrue result (repository_of pool.now book.now ≡ repository_of other_pool.now other.now) }
+    ensures { OnTrue result (repository_of pool.now book.now
+        ≡ repository_of other_pool.now other.now) }
 {
     if !are_same_lists(book.conflicts.as_slice(), other.conflicts.as_slice()) {
         return false;
@@ -28,7 +30,8 @@ pub fn is_same_book(pool: &Pool, book: &Book, other_pool: &Pool, other: &Book) -
 pub fn same_books(pool: &Pool, book: &Book, other: &Book) -> bool
     requires first { Sound pool.now book.now }
     requires second { Sound pool.now other.now }
-    ensures { result ≡ is_same_repository (repository_of pool.now book.now) (repository_of pool.now other.now) }
+    ensures { result
+        ≡ is_same_repository (repository_of pool.now book.now) (repository_of pool.now other.now) }
 {
     same_rows(book.rows.as_slice(), other.rows.as_slice())
         && are_same_lists(book.conflicts.as_slice(), other.conflicts.as_slice())

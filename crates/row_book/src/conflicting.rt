@@ -25,7 +25,8 @@ pub fn are_against(table: &[NumList], first: u32, second: u32) -> bool
     holds_ascending(conflicts_of(table, first), second)
 }
 
-/// Whether the table, whose lists ascend, has the package among the conflicts of each of the others.
+/// Whether the table, whose lists ascend, has the package among the conflicts of each of the
+/// others.
 fn is_against_each(table: &[NumList], others: &[u32], number: u32) -> bool
     requires { (p : ℕ) → Ascending (listed_for table.now p) }
     ensures { result ≡ list_all (λ other. against_in table.now other number) others.now }
@@ -38,7 +39,8 @@ fn is_against_each(table: &[NumList], others: &[u32], number: u32) -> bool
     true
 }
 
-/// The packages that conflict with the first and with each of the others, by the table, whose lists ascend.
+/// The packages that conflict with the first and with each of the others, by the table, whose lists
+/// ascend.
 pub fn common_conflicts(
     alloc: Global,
     table: &[NumList],
@@ -71,12 +73,13 @@ impl Book {
     ghost use Rattle.listed.specs.Lists.{has, In};
     ghost use Rattle.row_book.specs.Book.{listed_for};
 
-    /// Whether each package of the first list conflicts with each of the second, all of them below the size; it takes no
-    /// memory.
+    /// Whether each package of the first list conflicts with each of the second, all of them below
+    /// the size.
     pub fn all_conflict(&self, first: &[u32], second: &[u32]) -> bool
         requires first { (m : ℕ) → In m first.now → m < length self.now.rows }
         requires second { (n : ℕ) → In n second.now → n < length self.now.rows }
-        ensures { IsTrue result ↔ ((m n : ℕ) → In m first.now → In n second.now → has (listed_for self.now.conflicts m) n ≡ true) }
+        ensures { IsTrue result ↔ ((m n : ℕ) → In m first.now → In n second.now →
+            has (listed_for self.now.conflicts m) n ≡ true) }
     {
         all_conflict(self.conflicts.as_slice(), first, second)
     }

@@ -12,14 +12,14 @@ use clause_pool::{ClauseId, Pool};
 /// The first reason why a set of packages is not healthy.
 #[derive(Clone, Copy, Debug, PartialEq, Eq)]
 pub enum Unhealthy {
-    /// A clause of a package of the set, of which the set has no member.
+    /// The set has no member of a clause of one of its packages.
     Unhit {
         /// The least package with such a clause.
         package: u32,
         /// The place of its first such clause, from 0.
         clause: u64,
     },
-    /// Two packages of the set that conflict, where every clause is hit.
+    /// Every clause is hit, and two packages of the set conflict.
     Clash {
         /// The least package that conflicts with a greater one of the set.
         first: u32,
@@ -29,13 +29,16 @@ pub enum Unhealthy {
 }
 
 impl Book {
-    /// Whether the packages with a flag that is up are a healthy set, or the first reason why not: a clause that is not hit,
-    /// by package and place, and else a conflict, by its lesser and then by its greater number. It takes no memory.
+    /// Whether the packages with a flag that is up are a healthy set, or the first reason why not.
+    /// That is the first clause that is not hit, by package and place. If all are hit, it is the
+    /// first conflict, by its lesser and then by its greater number.
     pub fn is_healthy(&self, pool: &Pool, chosen: &[bool]) -> Result<(), Unhealthy>
         requires sound { Sound pool.now self.now }
         requires flags { length chosen.now ≡ length self.now.rows }
-        ensures healthy { OnOk result (Healthy (repository_of pool.now self.now) (flag chosen.now)) }
-        ensures refused { IfErr result (IsFirstFault (repository_of pool.now self.now) (flag chosen.now)) }
+        ensures healthy { OnOk result
+            (Healthy (repository_of pool.now self.now) (flag chosen.now)) }
+        ensures refused { IfErr result
+            (IsFirstFault (repository_of pool.now self.now) (flag chosen.now)) }
     {
         self.check_clauses(pool, chosen)?;
         match self.first_clash(chosen) {
@@ -51,8 +54,10 @@ impl Book {
     fn check_clauses(&self, pool: &Pool, chosen: &[bool]) -> Result<(), Unhealthy>
         requires sound { Sound pool.now self.now }
         requires flags { length chosen.now ≡ length self.now.rows }
-        ensures satisfied { OnOk result (AllSatisfied (repository_of pool.now self.now) (flag chosen.now)) }
-        ensures refused { IfErr result (IsFirstFault (repository_of pool.now self.now) (flag chosen.now)) }
+        ensures satisfied { OnOk result
+            (AllSatisfied (repository_of pool.now self.now) (flag chosen.now)) }
+        ensures refused { IfErr result
+            (IsFirstFault (repository_of pool.now self.now) (flag chosen.now)) }
     {
         for number in 0..self.size() {
             if is_member(chosen, number) {

@@ -35,7 +35,7 @@ pub use subsets::is_coinst;
 pub use clause_table::{ClauseTable, clause_holds};
 pub use uses::{UseTable, distinct_numbers_in};
 
-// What reductions leave behind.
+// The steps that reductions leave.
 pub use trail::{Step, StepList, Trail};
 
 // Lists.

@@ -10,11 +10,11 @@ use listed::Listed;
 use std::alloc::{AllocError, Global};
 
 impl Book {
-    /// The same book in the pool that a compaction has left, where each of its rows was live; it fails only where no memory
-    /// is found.
+    /// The book in the pool that a compaction has left. Each of its rows was live.
     pub fn rename(&self, alloc: Global, remap: &Remap) -> Result<Book, AllocError>
         requires { (id : ℕ) → In id self.now.rows → Knows remap.now id }
-        ensures { IfOk result (λ book. (old new : Interned) (live : List ℕ) → Compacts old live remap.now new → IsSameBook old self.now new book) }
+        ensures { IfOk result (λ book. (old new : Interned) (live : List ℕ) →
+            Compacts old live remap.now new → IsSameBook old self.now new book) }
     {
         let mut rows = Vec::new(alloc);
         for row in self.rows.as_slice() {
@@ -23,8 +23,8 @@ impl Book {
         self.with_rows(alloc, Listed::of(rows))
     }
 
-    /// The same book in another pool, which gains its rows and their clauses alone; it fails only where no memory is found,
-    /// and then some of these may have been gained. What that pool held stays.
+    /// The same book in another pool, which gains only its rows and their clauses. If memory runs
+    /// out, some of these may have been gained. What that pool held stays.
     pub fn carry(&self, alloc: Global, from: &Pool, into: &mut Pool) -> Result<Book, AllocError>
         requires { Sound from.now self.now }
         ensures same { IfOk result (λ book. IsSameBook from.now self.now into.new book) }

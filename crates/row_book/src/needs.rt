@@ -8,7 +8,8 @@ use listed::Listed;
 use std::alloc::{AllocError, Global};
 use std::marker::Model;
 
-/// A growing list of clauses, each strictly ascending and not empty, of which a set is to hit every one.
+/// A growing list of clauses, each strictly ascending and not empty. A set is to hit every one of
+/// them.
 #[derive(Drop)]
 pub struct Needs {
     clauses: Vec<NumList>,
@@ -28,7 +29,7 @@ impl Model for Needs {
 }
 
 impl Needs {
-    /// No clauses; it takes no memory.
+    /// No clauses.
     pub fn new(alloc: Global) -> Needs
         ensures { result ≡ [] }
     {
@@ -37,7 +38,8 @@ impl Needs {
         }
     }
 
-    /// Puts a clause, strictly ascending and not empty, behind the others; where no memory is found, the list stays as it was.
+    /// Appends a clause, strictly ascending and not empty. If memory runs out, the list stays as it
+    /// was.
     pub fn push(&mut self, clause: &[u32]) -> Result<(), AllocError>
         requires ascending { Ascending clause.now }
         requires filled { 0 < length clause.now }
@@ -49,7 +51,7 @@ impl Needs {
         Ok(())
     }
 
-    /// The number of clauses; it takes no memory.
+    /// The number of clauses.
     pub fn count(&self) -> u64
         ensures count { result ≡ length self.now }
         ensures needs { AreNeeds self.now }
@@ -57,7 +59,7 @@ impl Needs {
         self.clauses.len() as u64
     }
 
-    /// Lends the clause at a place below the count; it takes no memory.
+    /// Lends the clause at a place below the count.
     pub fn at(&self, place: u64) -> &[u32]
         requires { place < length self.now }
         ensures clause { result.now ≡ slice_index_or self.now place [] }

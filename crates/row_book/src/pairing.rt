@@ -6,7 +6,7 @@ use crate::{NumList, Pair};
 use listed::empty_lists;
 use std::alloc::{AllocError, Global};
 
-/// For each of so many packages, ascending, those that it is paired with.
+/// For each of `size` packages, ascending, those that it is paired with.
 pub(crate) fn conflict_lists(
     alloc: Global,
     pairs: &[Pair],
@@ -31,7 +31,7 @@ fn in_order(alloc: Global, pairs: &[Pair]) -> Result<Vec<Pair>, AllocError>
     Ok(ordered)
 }
 
-/// Puts into empty lists, in order, the numbers of the pairs, each into the list of the other.
+/// Appends, in order, to empty lists the numbers of the pairs, each to the list of the other.
 fn enter_pairs(table: &mut Vec<NumList>, pairs: &[Pair]) -> Result<(), AllocError>
     requires rising { Rising pairs.now }
     requires fit { PairsFit pairs.now (length table.old.items) }
@@ -44,7 +44,7 @@ fn enter_pairs(table: &mut Vec<NumList>, pairs: &[Pair]) -> Result<(), AllocErro
     Ok(())
 }
 
-/// Puts the numbers of a pair behind the lists of one another, unless they are the last there.
+/// Appends each number of a pair to the list of the other, unless it is the last there.
 fn enter_pair(table: &mut Vec<NumList>, pair: Pair) -> Result<(), AllocError>
     requires ordered { pair.low < pair.high }
     requires below { pair.high < length table.old.items }
@@ -54,7 +54,7 @@ fn enter_pair(table: &mut Vec<NumList>, pair: Pair) -> Result<(), AllocError>
     enter(table, pair.low, pair.high)
 }
 
-/// Puts a number behind the list of a package, unless it is the last there.
+/// Appends a number to the list of a package, unless it is the last there.
 fn enter(table: &mut Vec<NumList>, holder: u32, number: u32) -> Result<(), AllocError>
     requires { holder < length table.old.items }
     ensures { OnOk result (table.new.items ≡ slice_set table.old.items holder

@@ -45,7 +45,7 @@ fn extends(
     extends_by(clauses, conflicts, wanted, flags, true, left - 1)
 }
 
-/// The same once the next package has this flag.
+/// Whether some choice makes such a set, once the next package has this flag.
 #[cycle(choices)]
 fn extends_by(
     clauses: &[ClauseList],
@@ -76,7 +76,7 @@ fn is_solution(
     is_abundant(clauses, flags) && is_peaceful(conflicts, flags) && has_all(flags, wanted)
 }
 
-/// Each clause of each member is hit.
+/// Whether each clause of each member is hit.
 fn is_abundant(clauses: &[ClauseList], flags: &[bool]) -> bool
     ensures { result ≡ is_abundant clauses.now flags.now }
 {
@@ -84,7 +84,7 @@ fn is_abundant(clauses: &[ClauseList], flags: &[bool]) -> bool
         || hits_row(flags, row.as_slice()))
 }
 
-/// No member has another among its conflicts.
+/// Whether no member has another among its conflicts.
 fn is_peaceful(conflicts: &[NumList], flags: &[bool]) -> bool
     ensures { result ≡ is_peaceful conflicts.now flags.now }
 {

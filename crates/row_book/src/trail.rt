@@ -16,7 +16,8 @@ pub enum Step {
         package: u32,
         /// The clause.
         clause: NumList,
-        /// The member of the clause that is put in if the package is there and no member of the clause is.
+        /// The member of the clause that is added if the package is there and no member of the
+        /// clause is.
         added: u32,
     },
     /// Packages that are alike became classes.

@@ -1,7 +1,8 @@
 //! Which packages name which.
 //!
-//! The table holds a pair for each package and each number, so a long clause that many rows share costs a square. Flattening
-//! goes by `ClauseTable`. This table serves `eliminate`, and `suite_part`, which asks it who needs a package that has changed.
+//! The table holds a pair for each package and each number, so a long clause that many rows share
+//! costs a square. Flattening goes by `ClauseTable`. This table serves `eliminate`, and
+//! `suite_part`, which asks it who needs a package that has changed.
 ghost use Rattle.std.specs.Prelude.{◌≡◌, ◌<◌, ◌-◌, ◌⊎◌, ◌&&◌, ◌||◌, ℕ, List, [], IfOk, OnOk, OnErr, true, not, eqb, length, slice_set, vec_capacity, vec_len};
 ghost use Rattle.std.specs.List.Sorted.{IsNonDecreasing, IsSearchInRange};
 ghost use Rattle.clause_pool.specs.Interned.{clauses_at, ids_at, row_at, OfPool};
@@ -33,7 +34,7 @@ impl Model for UseTable {
 }
 
 impl UseTable {
-    /// The table of the rows; it fails only where no memory is found.
+    /// The table of the rows.
     pub fn of(alloc: Global, pool: &Pool, rows: &[RowId]) -> Result<UseTable, AllocError>
         requires few { length rows.now < u32.MAX }
         requires fit { RowsFit pool.now rows.now }
@@ -47,8 +48,8 @@ impl UseTable {
         Ok(UseTable { users })
     }
 
-    /// Lends the packages that the table has for the number: in a table of rows, ascending, those whose row has a clause
-    /// that holds it; it takes no memory.
+    /// Lends the packages that the table has for the number. In a table of rows these are,
+    /// ascending, those whose row has a clause that holds it.
     pub fn packages(&self, literal: u32) -> &[u32]
         requires { literal < length self.now }
         ensures { result.now ≡ listed_for self.now literal }
@@ -56,8 +57,9 @@ impl UseTable {
         self.users[literal as usize].as_slice()
     }
 
-    /// Puts a new row in the place of the old one of a package: a table of rows in which the package has the old row is
-    /// then that of the same rows with the new one there. Where no memory is found, the table stays as it was.
+    /// Replaces the old row of a package by a new one. If the table is that of rows in which the
+    /// package has the old row, it is then that of the same rows with the new one there. If memory
+    /// runs out, the table stays as it was.
     pub fn replace(
         &mut self,
         alloc: Global,
@@ -68,10 +70,14 @@ impl UseTable {
     ) -> Result<(), AllocError>
         requires old { old < length pool.now.rows }
         requires new { new < length pool.now.rows }
-        requires old_numbers { (c : List ℕ) → In c (row_at pool.now old) → (n : ℕ) → In n c → n < length self.old }
-        requires numbers { (c : List ℕ) → In c (row_at pool.now new) → (n : ℕ) → In n c → n < length self.old }
-        ensures ok { OnOk result ((rows : List ℕ) → number < length rows → row_id rows number ≡ old →
-            self.old ≡ uses_of pool.now rows → self.new ≡ uses_of pool.now (slice_set rows number new)) }
+        requires old_numbers { (c : List ℕ) → In c (row_at pool.now old) → (n : ℕ) → In n c →
+            n < length self.old }
+        requires numbers { (c : List ℕ) → In c (row_at pool.now new) → (n : ℕ) → In n c →
+            n < length self.old }
+        ensures ok { OnOk result ((rows : List ℕ) → number < length rows →
+            row_id rows number ≡ old →
+            self.old ≡ uses_of pool.now rows →
+            self.new ≡ uses_of pool.now (slice_set rows number new)) }
         ensures err { OnErr result (self.new ≡ self.old) }
     {
         let changes = changes_between(alloc, pool, pool.row(old), pool.row(new))?;
@@ -82,8 +88,9 @@ impl UseTable {
     }
 }
 
-/// Takes a package out of the lists of the numbers that only lost clauses held, and puts it into those of the gained ones:
-/// a table of rows is then that of the same rows with the new one there. Where no memory is found, the lists stay as they were.
+/// Takes a package out of the lists of the numbers that only lost clauses held, and adds it to
+/// those of the gained ones. A table of rows is then that of the same rows with the new one there.
+/// If memory runs out, the lists stay as they were.
 fn exchange(
     table: &mut [Vec<u32>],
     alloc: Global,
@@ -95,12 +102,17 @@ fn exchange(
     requires new { new < length pool.now.rows }
     requires lost_of { OfPool pool.now changes.now.lost.items }
     requires gained_of { OfPool pool.now changes.now.gained.items }
-    requires lost { (n : ℕ) → some_holds (clauses_at pool.now changes.now.lost.items) n ≡ true → n < length table.old }
-    requires gained { (n : ℕ) → some_holds (clauses_at pool.now changes.now.gained.items) n ≡ true → n < length table.old }
+    requires lost { (n : ℕ) → some_holds (clauses_at pool.now changes.now.lost.items) n ≡ true →
+        n < length table.old }
+    requires gained { (n : ℕ) → some_holds (clauses_at pool.now changes.now.gained.items) n ≡ true →
+        n < length table.old }
     ensures ok { OnOk result ((rows : List ℕ) → number < length rows →
-        HoldsDifference (ids_at pool.now (row_id rows number)) (ids_at pool.now new) changes.now.lost.items →
-        HoldsDifference (ids_at pool.now new) (ids_at pool.now (row_id rows number)) changes.now.gained.items →
-        lists_in table.old ≡ uses_of pool.now rows → lists_in table.new ≡ uses_of pool.now (slice_set rows number new)) }
+        HoldsDifference (ids_at pool.now (row_id rows number))
+        (ids_at pool.now new) changes.now.lost.items →
+        HoldsDifference (ids_at pool.now new)
+        (ids_at pool.now (row_id rows number)) changes.now.gained.items →
+        lists_in table.old ≡ uses_of pool.now rows →
+        lists_in table.new ≡ uses_of pool.now (slice_set rows number new)) }
     ensures err { OnErr result (lists_in table.new ≡ lists_in table.old) }
 {
     let before = sorted_numbers_in(alloc, pool, changes.lost.as_slice())?;
@@ -110,8 +122,8 @@ fn exchange(
     Ok(())
 }
 
-/// Puts the package into the list of each number that the clauses hold, where it is not there yet; where no memory is
-/// found, the lists stay as they were.
+/// Adds the package to the list of each number that the clauses hold, unless it is there already.
+/// If memory runs out, the lists stay as they were.
 fn add_gained(
     table: &mut [Vec<u32>],
     alloc: Global,
@@ -120,9 +132,11 @@ fn add_gained(
     number: u32,
 ) -> Result<(), AllocError>
     requires of_pool { OfPool pool.now ids.now }
-    requires within { (n : ℕ) → some_holds (clauses_at pool.now ids.now) n ≡ true → n < length table.old }
+    requires within { (n : ℕ) → some_holds (clauses_at pool.now ids.now) n ≡ true →
+        n < length table.old }
     ensures ok { OnOk result ((n : ℕ) → Ascending (list_in table.old n) →
-        IsListOf (λ m. has (list_in table.old n) m || (some_holds (clauses_at pool.now ids.now) n && eqb m number)) (list_in table.new n)) }
+        IsListOf (λ m. has (list_in table.old n) m
+        || (some_holds (clauses_at pool.now ids.now) n && eqb m number)) (list_in table.new n)) }
     ensures err { OnErr result (lists_in table.new ≡ lists_in table.old) }
 {
     let after = numbers_in(alloc, pool, ids)?;
@@ -134,7 +148,8 @@ fn add_gained(
 /// The numbers that clauses hold.
 fn numbers_in(alloc: Global, pool: &Pool, ids: &[ClauseId]) -> Result<Vec<u32>, AllocError>
     requires { OfPool pool.now ids.now }
-    ensures { IfOk result (λ found. (n : ℕ) → has found.items n ≡ some_holds (clauses_at pool.now ids.now) n) }
+    ensures { IfOk result (λ found. (n : ℕ) →
+        has found.items n ≡ some_holds (clauses_at pool.now ids.now) n) }
 {
     let mut found = Vec::new(alloc);
     for id in ids {
@@ -146,7 +161,8 @@ fn numbers_in(alloc: Global, pool: &Pool, ids: &[ClauseId]) -> Result<Vec<u32>, 
 /// The numbers that clauses hold, in their order.
 fn sorted_numbers_in(alloc: Global, pool: &Pool, ids: &[ClauseId]) -> Result<Vec<u32>, AllocError>
     requires { OfPool pool.now ids.now }
-    ensures members { IfOk result (λ found. (n : ℕ) → has found.items n ≡ some_holds (clauses_at pool.now ids.now) n) }
+    ensures members { IfOk result (λ found. (n : ℕ) →
+        has found.items n ≡ some_holds (clauses_at pool.now ids.now) n) }
     ensures sorted { IfOk result (λ found. IsNonDecreasing found.items) }
 {
     let mut found = numbers_in(alloc, pool, ids)?;
@@ -154,15 +170,17 @@ fn sorted_numbers_in(alloc: Global, pool: &Pool, ids: &[ClauseId]) -> Result<Vec
     Ok(found)
 }
 
-/// The numbers that clauses hold, each once and in their order; it fails only where no memory is found.
+/// The numbers that clauses hold, each once and in their order.
 pub fn distinct_numbers_in(
     alloc: Global,
     pool: &Pool,
     ids: &[ClauseId],
 ) -> Result<Vec<u32>, AllocError>
     requires { OfPool pool.now ids.now }
-    ensures held { IfOk result (λ found. (n : ℕ) → In n found.items → some_holds (clauses_at pool.now ids.now) n ≡ true) }
-    ensures all { IfOk result (λ found. (n : ℕ) → some_holds (clauses_at pool.now ids.now) n ≡ true → In n found.items) }
+    ensures held { IfOk result (λ found. (n : ℕ) → In n found.items →
+        some_holds (clauses_at pool.now ids.now) n ≡ true) }
+    ensures all { IfOk result (λ found. (n : ℕ) →
+        some_holds (clauses_at pool.now ids.now) n ≡ true → In n found.items) }
     ensures ascending { IfOk result (λ found. Ascending found.items) }
 {
     let mut found = sorted_numbers_in(alloc, pool, ids)?;
@@ -179,7 +197,8 @@ fn numbers_among(
 ) -> Result<Vec<u32>, AllocError>
     requires of_pool { OfPool pool.now ids.now }
     requires sorted { IsNonDecreasing wanted.now }
-    ensures members { IfOk result (λ found. (n : ℕ) → has found.items n ≡ (some_holds (clauses_at pool.now ids.now) n && has wanted.now n)) }
+    ensures members { IfOk result (λ found. (n : ℕ) →
+        has found.items n ≡ (some_holds (clauses_at pool.now ids.now) n && has wanted.now n)) }
     ensures sorted { IfOk result (λ found. IsNonDecreasing found.items) }
 {
     let mut found = Vec::new(alloc);
@@ -190,10 +209,11 @@ fn numbers_among(
     Ok(found)
 }
 
-/// Puts the wanted numbers, which are sorted, of a clause behind the others.
+/// Appends the wanted numbers of a clause. The wanted numbers are sorted.
 fn add_wanted(clause: &[u32], wanted: &[u32], found: &mut Vec<u32>) -> Result<(), AllocError>
     requires { IsNonDecreasing wanted.now }
-    ensures { OnOk result ((n : ℕ) → has found.new.items n ≡ (has found.old.items n || (has clause.now n && has wanted.now n))) }
+    ensures { OnOk result ((n : ℕ) →
+        has found.new.items n ≡ (has found.old.items n || (has clause.now n && has wanted.now n))) }
 {
     for number in clause {
         if holds_sorted(wanted, *number) {
@@ -203,12 +223,13 @@ fn add_wanted(clause: &[u32], wanted: &[u32], found: &mut Vec<u32>) -> Result<()
     Ok(())
 }
 
-/// Puts the package into the list of each of the numbers, where it is not there yet; where no memory is found, the lists
-/// stay as they were.
+/// Adds the package to the list of each of the numbers, unless it is there already. If memory runs
+/// out, the lists stay as they were.
 fn add_to_each(table: &mut [Vec<u32>], numbers: &[u32], number: u32) -> Result<(), AllocError>
     requires { (n : ℕ) → has numbers.now n ≡ true → n < length table.old }
     ensures ok { OnOk result ((n : ℕ) → Ascending (list_in table.old n) →
-        IsListOf (λ m. has (list_in table.old n) m || (has numbers.now n && eqb m number)) (list_in table.new n)) }
+        IsListOf (λ m.
+        has (list_in table.old n) m || (has numbers.now n && eqb m number)) (list_in table.new n)) }
     ensures err { OnErr result (lists_in table.new ≡ lists_in table.old) }
 {
     make_room(table, numbers)?;
@@ -228,12 +249,14 @@ fn make_room(table: &mut [Vec<u32>], numbers: &[u32]) -> Result<(), AllocError>
     Ok(())
 }
 
-/// Puts the package into the list of each of the numbers, all of which have room, where it is not there yet.
+/// Adds the package to the list of each of the numbers, unless it is there already. All of these
+/// lists have room.
 fn put_into_each(table: &mut [Vec<u32>], numbers: &[u32], package: u32)
     requires within { (n : ℕ) → has numbers.now n ≡ true → n < length table.old }
     requires room { (n : ℕ) → has numbers.now n ≡ true → 0 < room_in table.old n }
     ensures { (n : ℕ) → Ascending (list_in table.old n) →
-        IsListOf (λ m. has (list_in table.old n) m || (has numbers.now n && eqb m «package»)) (list_in table.new n) }
+        IsListOf (λ m. has (list_in table.old n) m
+        || (has numbers.now n && eqb m «package»)) (list_in table.new n) }
 {
     for number in numbers {
         put(&mut table[*number as usize], package);
@@ -245,7 +268,9 @@ fn take_from_each(table: &mut [Vec<u32>], numbers: &[u32], kept: &[u32], package
     requires sorted { IsNonDecreasing kept.now }
     requires within { (n : ℕ) → has numbers.now n ≡ true → n < length table.old }
     ensures { (n : ℕ) → Ascending (list_in table.old n) →
-        IsListOf (λ m. has (list_in table.old n) m && not (has numbers.now n && not (has kept.now n) && eqb m «package»)) (list_in table.new n) }
+        IsListOf (λ m. has (list_in table.old n) m
+        && not (has numbers.now n && not (has kept.now n) && eqb m «package»))
+        (list_in table.new n) }
 {
     for number in numbers {
         if holds_sorted(kept, *number) {
@@ -255,28 +280,31 @@ fn take_from_each(table: &mut [Vec<u32>], numbers: &[u32], kept: &[u32], package
     }
 }
 
-/// Puts a number into its place in an ascending list with room for one more, where it is not there yet.
+/// Inserts a number in its place in an ascending list with room for one more, unless it is there
+/// already.
 fn put(list: &mut Vec<u32>, number: u32)
-    ensures { Ascending list.old.items → (has list.old.items number ≡ true) ⊎ (0 < vec_capacity list.old - vec_len list.old) →
+    ensures { Ascending list.old.items →
+        (has list.old.items number ≡ true) ⊎ (0 < vec_capacity list.old - vec_len list.old) →
         IsListOf (plus (has list.old.items) number) list.new.items }
 {
     if let Err(place) = place_of(list.as_slice(), number) {
-        // With room left it is always put in.
+        // With room left, it is always inserted.
         let _ = list.insert(place, number);
     }
 }
 
-/// Takes a number out of an ascending list, where it is there.
+/// Removes a number from an ascending list, if it is there.
 fn take_out(list: &mut Vec<u32>, number: u32)
-    ensures { Ascending list.old.items → IsListOf (without (has list.old.items) number) list.new.items }
+    ensures { Ascending list.old.items →
+        IsListOf (without (has list.old.items) number) list.new.items }
 {
     if let Ok(place) = place_of(list.as_slice(), number) {
         list.remove(place);
     }
 }
 
-/// The place of a number in an ascending list, or the place where it would be put. The end is looked at first: tables grow
-/// there, and lose there what is taken out last package first.
+/// The place of a number in an ascending list, or the place at which it would be inserted. The end
+/// is looked at first: tables grow there, and shrink there as the last package is taken out first.
 fn place_of(list: &[u32], number: u32) -> Result<usize, usize>
     ensures bound { IsSearchInRange result (length list.now) }
     ensures place { Ascending list.now → IsPlaceOf list.now number result }

@@ -1,5 +1,5 @@
--- The own packages of a dpkg status file, which are installed and not foreign to the home of an index, and the fault of the
--- file.
+-- The own packages of a dpkg status file, which are installed and not foreign to the home of an
+-- index, and the fault of the file.
 use Rattle.std.specs.{Prelude.{ℕ, List, Option, map, count_by}, Option.{option_map, option_or}, Result.{result_err}}
 use Rattle.stanza_reader.specs.{Blanking.{blanked}, Stanzas.{stanzas}}
 use Rattle.relation_fields.specs.{declared.packages.Home.{Home}, declared.packages.PackageFacts.{PackageFacts}}
@@ -7,7 +7,8 @@ use Rattle.repo_model.specs.{FirstFault.{first_fault, stanzas_of}, declared.faul
 use Rattle.suite_compare.specs.Refusals.{home_in, packages_in}
 use Rattle.status_check.specs.Installed.{is_foreign, is_own}
 
--- the file, where each line of each stanza that is not installed, or is foreign, is made empty, so that lines keep their numbers
+-- the file, in which each line of each stanza that is not installed, or is foreign, is made empty,
+-- so that lines keep their numbers
 unfoldable pub own_stanzas_text : Home → List ℕ → List ℕ
 own_stanzas_text home file = blanked (map (is_own home) (stanzas_of file)) file
 
@@ -15,7 +16,8 @@ own_stanzas_text home file = blanked (map (is_own home) (stanzas_of file)) file
 abbrev pub file_fault : List ℕ → Option IndexFault
 file_fault file = option_map Stanza (result_err (stanzas file))
 
--- the fault of the file: the first in the lines of the whole file, and else the first fault of the own packages as an index
+-- the fault of the file: the first in the lines of the whole file, and else the first fault of the
+-- own packages as an index
 abbrev pub status_fault : Home → List ℕ → Option IndexFault
 status_fault home file = option_or (file_fault file) (first_fault (own_stanzas_text home file))
 
@@ -23,7 +25,8 @@ status_fault home file = option_or (file_fault file) (first_fault (own_stanzas_t
 abbrev pub own_packages : Home → List ℕ → List PackageFacts
 own_packages home file = packages_in (own_stanzas_text home file)
 
--- their common architecture, which is missing where each of them is of `all`, whatever the home of the index is
+-- their common architecture; it is missing if each of them is of `all`, whatever the home of the
+-- index is
 abbrev pub own_home : Home → List ℕ → Home
 own_home home file = home_in (own_stanzas_text home file)
 

@@ -20,11 +20,12 @@ abbrev pub by_unserved : Repository → NumSet → Option ℕ → OwnState
 by_unserved R I (Some n) = Unhit n
 by_unserved R I None = by_clash (find (are_both I) (conflicting_pairs R))
 
--- the state of a set: its least package with a clause that it does not hit; where there is none, its first two packages that
--- conflict; and where there are none either, it is healthy
+-- The state of a set: its least package with a clause that it does not hit. If there is none, its
+-- first two packages that conflict. If there are none either, it is healthy.
 unfoldable pub set_state : Repository → NumSet → OwnState
 set_state R I = by_unserved R I (find (is_unserved R I) (packages R))
 
 -- a set has this state and no other
 abbrev pub StatesAreOne : Type 0
-StatesAreOne = (R : Repository) (I : NumSet) (state : OwnState) → SoundRepository R → OfPackages R I → (IsStateOf R I state ↔ (state ≡ set_state R I))
+StatesAreOne = (R : Repository) (I : NumSet) (state : OwnState) → SoundRepository R →
+    OfPackages R I → (IsStateOf R I state ↔ (state ≡ set_state R I))

@@ -1,4 +1,4 @@
-//! What the index has of the own packages, and whether these stand together in it.
+//! What the index has of the own packages, and whether these can be installed from it together.
 ghost use Rattle.std.specs.Prelude.{◌≡◌, List, length, map, IfOk};
 ghost use Rattle.relation_fields.specs.declared.packages.PackageFacts.{PackageFacts};
 ghost use Rattle.repo_model.specs.Goals.{packages_named};
@@ -16,8 +16,8 @@ use row_book::{LentBook, Needs};
 use std::alloc::{AllocError, Global};
 use suite_compare::{SuiteView, image_of};
 
-/// What the index has of some packages: the line of each, and for each that it has the classes of those of the same name and an
-/// equal version.
+/// What the index has of some packages. There is the line of each, and for each that it has the
+/// classes of those of the same name and an equal version.
 #[derive(Drop)]
 pub(crate) struct Had {
     pub(crate) lines: HaveList,
@@ -30,8 +30,11 @@ pub(crate) fn look_up(
     view: &SuiteView,
     packages: &[PackageFacts],
 ) -> Result<Had, AllocError>
-    ensures lines { IfOk result (λ had. had.lines ≡ map (line_for view.now.suite.packages) packages.now) }
-    ensures classes { IfOk result (λ had. had.classes ≡ images_of view.now.limit view.now.kernel.hold view.now.suite.home view.now.suite.packages (had_goals view.now.suite.packages packages.now)) }
+    ensures lines { IfOk result (λ had. had.lines
+        ≡ map (line_for view.now.suite.packages) packages.now) }
+    ensures classes { IfOk result (λ had. had.classes
+        ≡ images_of view.now.limit view.now.kernel.hold view.now.suite.home view.now.suite.packages
+        (had_goals view.now.suite.packages packages.now)) }
 {
     let mut lines = HaveList::new(alloc);
     let mut classes = Needs::new(alloc);
@@ -51,21 +54,24 @@ pub(crate) fn look_up(
 
 // The packages of the index that have the name of a package and an equal version, ascending.
 fn numbers_of(alloc: Global, suite: &Suite, facts: &PackageFacts) -> Result<Vec<u32>, AllocError>
-    ensures { IfOk result (λ numbers. numbers.items ≡ packages_named suite.now.packages (goal_for facts.now)) }
+    ensures { IfOk result (λ numbers. numbers.items
+        ≡ packages_named suite.now.packages (goal_for facts.now)) }
 {
     suite.versioned(alloc, facts.name.as_slice(), &facts.version)
 }
 
 // The line of an own package.
 fn line_of(alloc: Global, facts: &PackageFacts, had: bool) -> Result<HaveLine, AllocError>
-    ensures { (index : List PackageFacts) → had ≡ index_has index facts.now → IfOk result (λ line. line ≡ line_for index facts.now) }
+    ensures { (index : List PackageFacts) → had ≡ index_has index facts.now →
+        IfOk result (λ line. line ≡ line_for index facts.now) }
 {
     let name = Bytes::copy(alloc, facts.name.as_slice())?;
     let version = Bytes::copy(alloc, facts.version.text())?;
     Ok(HaveLine { name, version, had })
 }
 
-/// What the search for a healthy set with one of each of these classes tells, within a budget of failed leaves.
+/// What the search for a healthy set with one of each of these classes finds, within a budget of
+/// failed leaves.
 pub(crate) fn suite_state(
     alloc: Global,
     view: &SuiteView,
@@ -74,7 +80,8 @@ pub(crate) fn suite_state(
 ) -> Result<SuiteState, AllocError>
     requires fit { NeedsFit (length view.now.kernel.book.rows) classes.now }
     requires budget { IsBudget budget }
-    ensures { IfOk result (λ state. state ≡ state_of budget (kernel_verdict (repository_of view.now.pool view.now.kernel.book) budget classes.now)) }
+    ensures { IfOk result (λ state. state ≡ state_of budget
+        (kernel_verdict (repository_of view.now.pool view.now.kernel.book) budget classes.now)) }
 {
     let kernel = LentBook {
         pool: &view.pool,
@@ -85,7 +92,7 @@ pub(crate) fn suite_state(
     Ok(state_of(budget, verdict))
 }
 
-// What is told of a verdict.
+// The state by a verdict.
 fn state_of(budget: u64, verdict: Verdict) -> SuiteState
     requires { IsBudget budget }
     ensures { result ≡ state_of budget verdict }

@@ -25,7 +25,8 @@ pub(crate) fn sort_stanzas(
     stanzas: &[RawStanza],
 ) -> Result<Sorted, AllocError>
     ensures own { IfOk result (λ sorted. sorted.own.items ≡ map (is_own home.now) stanzas.now) }
-    ensures foreign { IfOk result (λ sorted. sorted.foreign ≡ count_by (is_foreign home.now) stanzas.now) }
+    ensures foreign { IfOk result (λ sorted. sorted.foreign
+        ≡ count_by (is_foreign home.now) stanzas.now) }
 {
     let mut own = Vec::with_capacity(alloc, stanzas.len())?;
     let mut foreign = 0;
@@ -37,7 +38,7 @@ pub(crate) fn sort_stanzas(
     Ok(Sorted { own, foreign })
 }
 
-// One more, where it counts.
+// The count, raised by one if there is one more.
 fn counted(count: u64, more: bool) -> u64
     requires { count < 9223372036854775807 }
     ensures { result ≡ if more then count + 1 else count }
@@ -45,7 +46,7 @@ fn counted(count: u64, more: bool) -> u64
     if more { count + 1 } else { count }
 }
 
-// Whether a stanza is installed, and there not foreign or foreign.
+// Whether a stanza is installed and not foreign, and whether it is installed and foreign.
 #[derive(Clone, Copy)]
 struct Standing {
     own: bool,
@@ -105,7 +106,7 @@ fn is_installed(stanza: &RawStanza) -> bool
     }
 }
 
-// Whether the value has exactly three words, of which the third is `installed`.
+// Whether the value has exactly three words, and the third is `installed`.
 fn says_installed(value: &[u8]) -> bool
     ensures { result ≡ says_installed (words value.now) }
 {
@@ -130,9 +131,10 @@ fn is_word_installed(word: &[u8]) -> bool
     word == b"installed".as_slice()
 }
 
-// The first word of a text, and what is behind it; or none, where the text has no word.
+// The first word of a text, and what follows it, if the text has a word.
 fn next_word(text: &[u8]) -> Option<(&[u8], &[u8])>
-    ensures { MatchOption result (words text.now ≡ []) (λ next. words text.now ≡ next.0.now ∷ words next.1.now) }
+    ensures { MatchOption result (words text.now ≡ []) (λ next. words text.now
+        ≡ next.0.now ∷ words next.1.now) }
 {
     let start = skip_white(text);
     if start.is_empty() {
@@ -149,7 +151,7 @@ fn skip_white(text: &[u8]) -> &[u8]
     trim_front(text)
 }
 
-// How many bytes stand before the first white space.
+// How many bytes are before the first white space.
 fn word_size(text: &[u8]) -> usize
     ensures place { result ≡ position_or_len is_edge text.now }
     ensures within { result ≤ length text.now }

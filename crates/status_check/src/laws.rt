@@ -1,7 +1,7 @@
-//! The laws of status files: the functions do nothing, the contract of each is one law.
+//! The laws of status files: the functions do nothing, and the contract of each is one law.
 ghost use Rattle.status_check.specs.{Laws.{NoArchitectureFault}, States.{StatesAreOne}};
 
-/// No architecture of a status file is a fault, against whatever index without a fault.
+/// No architecture of a status file is a fault, against any index without a fault.
 pub fn no_architecture_fault()
     ensures { NoArchitectureFault }
 {}

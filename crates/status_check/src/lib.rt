@@ -1,4 +1,5 @@
-//! What an index has of the packages that a dpkg status file says are installed, and whether these can stand together.
+//! What an index has of the packages that a dpkg status file says are installed, and whether these
+//! are healthy and can be installed from it together.
 #![tactic(auto)]
 
 mod classes;

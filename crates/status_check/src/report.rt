@@ -1,4 +1,4 @@
-//! What is told of an installed system against an index.
+//! The report on an installed system against an index.
 
 use deb_version::Bytes;
 use listed::Listed;
@@ -50,15 +50,16 @@ pub enum SuiteState {
     },
 }
 
-/// What is told of an installed system against an index.
+/// The report on an installed system against an index.
 #[derive(Drop)]
 pub struct StatusReport {
     /// The own packages, in the order of the file.
     pub lines: HaveList,
-    /// How many installed packages are of another architecture than `all` and the home of the index.
+    /// How many installed packages are of another architecture than `all` and the home of the
+    /// index.
     pub foreign: u64,
-    /// Whether the own packages stand together by what the file says of them.
+    /// Whether the own packages are a healthy set, by what the file says of them.
     pub own: OwnState,
-    /// Whether those that the index has stand together in it.
+    /// Whether those that the index has can be installed from it together.
     pub verdict: SuiteState,
 }

@@ -10,9 +10,11 @@ use repo_model::Suite;
 use row_book::Unhealthy;
 use std::alloc::{AllocError, Global};
 
-/// Whether all packages of the suite are a healthy set; if not, the first unmet need, or else the first conflict.
+/// Whether all packages of the suite are a healthy set; if not, the first unmet need, or else the
+/// first conflict.
 pub(crate) fn own_state(alloc: Global, suite: &Suite) -> Result<OwnState, AllocError>
-    ensures { IfOk result (IsStateOf (suite_repository suite.now.home suite.now.packages) (all_of suite.now.packages)) }
+    ensures { IfOk result (IsStateOf (suite_repository suite.now.home suite.now.packages)
+        (all_of suite.now.packages)) }
 {
     let mut pool = Pool::new(alloc)?;
     let book = suite.book(alloc, &mut pool)?;

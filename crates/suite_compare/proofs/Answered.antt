@@ -1,7 +1,7 @@
 -- The answer on goals, from the outcome of the search.
 use Rattle.std.{proofs.Common.{◌≡◌, ℕ, ◌<◌, Bool, List, [], length, filter, sym, ap, subst, ◌∙◌}, specs.List.{range_with_len}}
 use Rattle.clause_pool.specs.Interned.{Interned}
-use Rattle.clause_solver.{specs.Outcomes.{IsOutcomeOf, IsSearchOutcome, IsCertified as IsCertifiedOutcome}, specs.declared.outcomes.Outcome.{Outcome}, specs.declared.outcomes.Outcome.TheVariants.{Found, Refuted}}
+use Rattle.clause_solver.{specs.Outcomes.{IsOutcomeOf, IsSearchOutcome, IsCertified}, specs.declared.outcomes.Outcome.{Outcome}, specs.declared.outcomes.Outcome.TheVariants.{Found, Refuted}}
 use Rattle.install_lift.{specs.Lifting.{lift_of}, specs.Trimming.{trim_of}}
 use Rattle.kernel_rounds.specs.declared.extraction.Kernel.{Kernel}
 use Rattle.relation_fields.{specs.declared.packages.Home.{Home}, specs.declared.packages.PackageFacts.{PackageFacts}}
@@ -9,7 +9,7 @@ use Rattle.repo_model.{specs.Goals.{packages_named}, specs.Repository.{suite_rep
 use Rattle.row_book.{specs.Book.{repository_of}, specs.Flags.{flag}, specs.Needs.{NeedsFit}, specs.Repository.{Repository}, specs.Rounds.{kernel, kernel_steps}, specs.Sets.{HitsAll}, specs.Trail.{trail_meaning}, specs.declared.book.Book.{Book}, proofs.BookRepositories.{book_size}}
 use Rattle.listed.{specs.Lists.{In, has}, proofs.Lists.{In_map_cases}}
 use Rattle.search_terms.{specs.declared.literals.Log.{Log}, specs.Form.{form}, proofs.Found.{one_tree}}
-use Rattle.suite_compare.{specs.Asking.{asked_tree, images_of, installation, wanted_by}, specs.Answering.{true_numbers, IsCertified, IsYes, Serves}, specs.declared.answers.Answer.TheVariants.{No}, specs.Views.{IsViewOf}, proofs.Deciding.{asked_is, images_fit, named_within, to_classes}, proofs.Installed.{installations_serve, lift_hits}}
+use Rattle.suite_compare.{specs.Asking.{asked_tree, images_of, installation, wanted_by}, specs.Answering.{true_numbers, HasCertificate, IsYes, Serves}, specs.declared.answers.Answer.TheVariants.{No}, specs.Views.{IsViewOf}, proofs.Deciding.{asked_is, images_fit, named_within, to_classes}, proofs.Installed.{installations_serve, lift_hits}}
 
 module _ (pool : Interned) (home : Home) (stanzas : List PackageFacts) (book : Book) (made : Kernel) (limit : ℕ) (view : IsViewOf pool home stanzas book made limit) where
   abbrev R : Repository
@@ -72,8 +72,8 @@ module _ (pool : Interned) (home : Home) (stanzas : List PackageFacts) (book : B
     pub yes_serves : (budget : ℕ) (install numbers : List ℕ) → IsYes limit made.hold home stanzas goals budget install numbers → Serves home stanzas goals (has install)
     yes_serves budget install numbers so = subst (λ I. Serves home stanzas goals (has I)) (sym so.installed) (installations_serve limit made.hold home stanzas goals so.chosen so.found).1
 
-    pub no_certified : (log : Log) → IsCertifiedOutcome K classes (Refuted log) → IsCertified limit made.hold home stanzas goals (No log)
+    pub no_certified : (log : Log) → IsCertified K classes (Refuted log) → HasCertificate limit made.hold home stanzas goals (No log)
     no_certified log w =
-        let own : IsCertifiedOutcome (kernel limit made.hold R) (images_of limit made.hold home stanzas goals) (Refuted log) =
-        subst (λ S. IsCertifiedOutcome S (images_of limit made.hold home stanzas goals) (Refuted log)) view.kernel_is.book.repository (subst (λ cs. IsCertifiedOutcome K cs (Refuted log)) classes_are w) in
+        let own : IsCertified (kernel limit made.hold R) (images_of limit made.hold home stanzas goals) (Refuted log) =
+        subst (λ S. IsCertified S (images_of limit made.hold home stanzas goals) (Refuted log)) view.kernel_is.book.repository (subst (λ cs. IsCertified K cs (Refuted log)) classes_are w) in
         (own.0, own.1, λ coinst. let found = to_classes limit made.hold home stanzas goals coinst in own.2 found.0 found.1 found.2)

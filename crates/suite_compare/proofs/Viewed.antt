@@ -5,7 +5,7 @@ use Rattle.kernel_rounds.{specs.Extracting.{IsExtracted}, specs.declared.extract
 use Rattle.relation_fields.{specs.declared.packages.Home.{Home}, specs.declared.packages.PackageFacts.{PackageFacts}}
 use Rattle.repo_model.{specs.FirstFault.{home_of, stanzas_of}, specs.Repository.{suite_repository}, proofs.Packages.{length_clauses}, proofs.SoundSuite.{suite_sound}}
 use Rattle.row_book.{specs.Book.{repository_of, Sound}, specs.Flattening.{packages}, specs.Rounds.{PassedRound, limit_at}, specs.declared.book.Book.{Book}, proofs.Books.{repository_kept, sound_kept}}
-use Rattle.suite_compare.{specs.Refusals.{home_in, packages_in, RefusesSuite}, specs.declared.refusals.LimitError.{LimitError}, specs.Views.{IsKernelOf, IsViewOf}}
+use Rattle.suite_compare.{specs.Refusals.{home_in, packages_in, RefusesSuite}, specs.declared.refusals.LimitError.{LimitError}, specs.Views.{HoldsKernelOf, IsViewOf}}
 
 -- the book stays what it is while the kernel is extracted
 pub view_made : (old new : Interned) (home : Home) (stanzas : List PackageFacts) (book : Book) (made : Kernel) (limit : ℕ) (hold : Bool) → IsPool old →
@@ -13,7 +13,7 @@ pub view_made : (old new : Interned) (home : Home) (stanzas : List PackageFacts)
     → IsViewOf new home stanzas book made limit
 view_made old new home stanzas book made limit hold pool is sound told given = record {
   book_is = record { repository = repository_kept old new pool given.kept book sound ∙ is; sound = sound_kept old new pool given.kept book sound };
-  kernel_is = subst (IsKernelOf new made limit) is record {
+  kernel_is = subst (HoldsKernelOf new made limit) is record {
     book = record { repository = extracted.is; sound = extracted.sound };
     class_of = extracted.class_of;
     held = extracted.held;

@@ -13,22 +13,27 @@ AreSingles judge singles = singles ≡ map (alone (kernel_in judge) judge.budget
 abbrev pub bad : ℕ → Verdict → Bad
 bad k verdict = record { kind = k; verdict = verdict }
 
--- a kind that goes by itself is bad with another one unless the verdict on both together is yes; then it has an entry
+-- a kind that goes by itself is bad with another one unless the verdict on both together is yes;
+-- then it has an entry
 abbrev pub is_bad : Judge → List Verdict → ℕ → ℕ → Bool
-is_bad judge singles kind other = is_yes (slice_index_or singles other Spent) && not (is_yes (together_in judge kind other))
+is_bad judge singles kind other =
+    is_yes (slice_index_or singles other Spent) && not (is_yes (together_in judge kind other))
 
 abbrev pub bad_entry : Judge → List Verdict → ℕ → ℕ → List Bad
-bad_entry judge singles kind other = if is_bad judge singles kind other then bad other (together_in judge kind other) ∷ [] else []
+bad_entry judge singles kind other =
+    if is_bad judge singles kind other then bad other (together_in judge kind other) ∷ [] else []
 
--- kinds that go by themselves, with the verdict on both together, and each such kind unless that is yes
+-- kinds that go by themselves, with the verdict on both together, and each such kind unless that is
+-- yes
 pub record AreBad (judge : Judge) (kind : ℕ) (list : List Bad) : Type 0 where
   pub within : (b : Bad) → In b list → b.kind < length judge.kinds.items
   pub single : (b : Bad) → In b list → is_yes (alone_in judge b.kind) ≡ true
   pub verdict : (b : Bad) → In b list → b.verdict ≡ together_in judge kind b.kind
-  pub whole : is_yes (alone_in judge kind) ≡ true → (k : ℕ) → k < length judge.kinds.items → is_yes (alone_in judge k) ≡ true →
+  pub whole : is_yes (alone_in judge kind) ≡ true → (k : ℕ) → k < length judge.kinds.items →
+      is_yes (alone_in judge k) ≡ true →
       ((b : Bad) × In b list × (b.kind ≡ k)) ⊎ (together_in judge kind k ≡ Yes)
 
--- the verdict with a kind that a list of bad kinds tells: that of its entry, or else yes
+-- the verdict with a kind by a list of bad kinds: that of its entry, or else yes
 abbrev pub entered_verdict : List Bad → ℕ → Verdict
 entered_verdict list kind = option_map_or (λ b. b.verdict) (find (λ b. b.kind == kind) list) Yes
 

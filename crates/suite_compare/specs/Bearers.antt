@@ -13,11 +13,14 @@ bearers_of packages names = map (λ name. packages_named packages (any_version n
 -- these are lists of the book's packages, each ascending
 pub record FitsKernel (lent : LentBook) (classes : List (List ℕ)) : Type 0 where
   pub ascending : (image : List ℕ) → In image classes → Ascending image
-  pub within : (image : List ℕ) → In image classes → (k : ℕ) → In k image → k < length lent.book.now.rows
+  pub within : (image : List ℕ) → In image classes → (k : ℕ) → In k image →
+      k < length lent.book.now.rows
 
--- for each name the classes of the packages that bear it, of any version, in the kernel of some packages
+-- for each name the classes of the packages that bear it, of any version, in the kernel of some
+-- packages
 abbrev pub bearer_classes : ℕ → Bool → Home → List PackageFacts → List (List ℕ) → List (List ℕ)
-bearer_classes limit hold home stanzas names = map (λ name. image_of limit hold home stanzas (any_version name)) names
+bearer_classes limit hold home stanzas names =
+    map (λ name. image_of limit hold home stanzas (any_version name)) names
 
 -- these are the classes of some packages, ascending, by the class of each package
 pub record AreClasses (class_of chosen image : List ℕ) : Type 0 where

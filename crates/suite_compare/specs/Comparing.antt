@@ -22,23 +22,32 @@ goes_alone side i = is_yes (alone_in side.judge (slice_index_or side.of.items i 
 
 -- the partners of each of the first n pairs of kinds, and of each pair
 abbrev pub IsTableTo : ℕ → Judge → JointTable → List (List Bad) → List Partners → Type 0
-IsTableTo n old table bad partners = AreEach (λ a beside. ArePartners old table (old_kind table a) (slice_index_or bad (new_kind table a) []) beside) no_partners n partners
+IsTableTo n old table bad partners = AreEach (λ a beside. ArePartners old table (old_kind table a)
+    (slice_index_or bad (new_kind table a) []) beside) no_partners n partners
 
 abbrev pub IsTable : Judge → JointTable → List (List Bad) → List Partners → Type 0
 IsTable old table bad partners = IsTableTo (length table.joints.new.items) old table bad partners
 
--- the lines of single names and of pairs of names, and so the report, by the verdicts on lists of names
-abbrev pub told_singles : (List (List ℕ) → Verdict) → (List (List ℕ) → Verdict) → List (List ℕ) → List ReportLine
-told_singles old new names = flat_map (λ a. single_line a (finding (old (a ∷ [])) (new (a ∷ [])))) names
+-- the lines of single names and of pairs of names, and so the report, by the verdicts on lists of
+-- names
+abbrev pub told_singles : (List (List ℕ) → Verdict) → (List (List ℕ) → Verdict) →
+    List (List ℕ) → List ReportLine
+told_singles old new names =
+    flat_map (λ a. single_line a (finding (old (a ∷ [])) (new (a ∷ [])))) names
 
-abbrev pub told_pairs : (List (List ℕ) → Verdict) → (List (List ℕ) → Verdict) → List (List ℕ) → List ReportLine
-told_pairs old new names = with_later (λ a b. pair_line a b (finding (old (a ∷ (b ∷ []))) (new (a ∷ (b ∷ []))))) (filter (λ a. is_yes (new (a ∷ []))) names)
+abbrev pub told_pairs : (List (List ℕ) → Verdict) → (List (List ℕ) → Verdict) →
+    List (List ℕ) → List ReportLine
+told_pairs old new names = with_later
+    (λ a b. pair_line a b (finding (old (a ∷ (b ∷ []))) (new (a ∷ (b ∷ [])))))
+    (filter (λ a. is_yes (new (a ∷ []))) names)
 
-abbrev pub told_report : (List (List ℕ) → Verdict) → (List (List ℕ) → Verdict) → List (List ℕ) → List ReportLine
+abbrev pub told_report : (List (List ℕ) → Verdict) → (List (List ℕ) → Verdict) →
+    List (List ℕ) → List ReportLine
 told_report old new names = told_singles old new names ++ told_pairs old new names
 
 -- a side of these lists of classes, asked of this kernel within this budget
-pub record IsSideBy (K : Repository) (budget : ℕ) (lists : List (List ℕ)) (side : Side) : Type 0 where
+pub record IsSideBy (K : Repository) (budget : ℕ) (lists : List (List ℕ))
+    (side : Side) : Type 0 where
   pub side_is : IsSide (length lists) side side.of.items
   pub asked : kernel_in side.judge ≡ K
   pub spends : side.judge.budget ≡ budget
@@ -46,18 +55,22 @@ pub record IsSideBy (K : Repository) (budget : ℕ) (lists : List (List ℕ)) (s
 
 -- the verdicts on names in the suite of an old side, within its budget
 abbrev pub old_verdict : OldSide → List (List ℕ) → Verdict
-old_verdict old = named_verdict old.view.now.limit old.view.now.kernel.hold old.view.now.suite.home old.view.now.suite.packages old.budget
+old_verdict old = named_verdict old.view.now.limit old.view.now.kernel.hold old.view.now.suite.home
+    old.view.now.suite.packages old.budget
 
--- the verdicts on names in another suite, of which a kernel was made as that of the old side
+-- the verdicts on names in another suite, by a kernel that was made as that of the old side
 abbrev pub new_verdict : OldSide → Home → List PackageFacts → List (List ℕ) → Verdict
-new_verdict old home stanzas = named_verdict old.view.now.limit old.view.now.kernel.hold home stanzas old.budget
+new_verdict old home stanzas =
+    named_verdict old.view.now.limit old.view.now.kernel.hold home stanzas old.budget
 
 -- the verdicts on the names of both sides
 pub record AreBothVerdicts (made : NewSide) (v w : List (List ℕ) → Verdict) : Type 0 where
   pub old : AreVerdicts made.old.now made.part.of.items made.part.names.items v
   pub new : AreVerdicts made.side made.side.of.items made.part.names.items w
 
--- the names are those of the old side that other packages bear too, and the other side is that of these packages
-pub record IsNewSide (old : OldSide) (home : Home) (stanzas : List PackageFacts) (made : NewSide) : Type 0 where
+-- the names are those of the old side that other packages bear too, and the other side is that of
+-- these packages
+pub record IsNewSide (old : OldSide) (home : Home) (stanzas : List PackageFacts)
+    (made : NewSide) : Type 0 where
   pub names_are : made.part.names.items ≡ names_of_both old.view.now.suite.packages stanzas
   pub are : AreBothVerdicts made (old_verdict old) (new_verdict old home stanzas)

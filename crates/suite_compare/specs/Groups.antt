@@ -8,13 +8,13 @@ pub record AreEach {X : Type 0} (P : ℕ → X → Type 0) (d : X) (n : ℕ) (xs
   pub long : length xs ≡ n
   pub each : (k : ℕ) → k < n → P k (slice_index_or xs k d)
 
--- the number is behind the others under the key, and nothing else is new
+-- the number is added under the key, and nothing else is new
 pub record IsEntered (old new : List (List ℕ)) (key x : ℕ) : Type 0 where
   pub only : (k y : ℕ) → In y (listed_for new k) → In y (listed_for old k) ⊎ ((k ≡ key) × (y ≡ x))
   pub kept : (k y : ℕ) → In y (listed_for old k) → In y (listed_for new k)
   pub entered : In x (listed_for new key)
 
--- under each key those of the first n places at which it stands
+-- under each key those of the first n places at which it is
 pub record ArePlacesTo (n : ℕ) (keys : List ℕ) (table : List (List ℕ)) : Type 0 where
   pub only : (k i : ℕ) → In i (listed_for table k) → (i < n) × (slice_index_or keys i 0 ≡ k)
   pub all : (i : ℕ) → i < n → In i (listed_for table (slice_index_or keys i 0))

@@ -15,7 +15,7 @@ alone K budget goal = kernel_verdict K budget (goal ∷ [])
 abbrev pub together : Repository → ℕ → List ℕ → List ℕ → Verdict
 together K budget first second = kernel_verdict K budget (first ∷ (second ∷ []))
 
--- two goals of one class each, of which the one class is against the other
+-- two goals of one class each, and these conflict
 pub record AreRivals (conflicts : List (List ℕ)) (first second : List ℕ) : Type 0 where
   pub one : ℕ
   pub other : ℕ
@@ -27,8 +27,10 @@ pub record AreRivals (conflicts : List (List ℕ)) (first second : List ℕ) : T
 abbrev pub IsOneClass : List ℕ → Type 0
 IsOneClass goal = (c : ℕ) × (goal ≡ c ∷ [])
 
--- the keys of the first n items, each once in the order in which they came, the item with which each came first, and the number of each item's key
-pub record AreNumbered (key : ℕ → List ℕ) (n : ℕ) (seen : List (List ℕ)) (firsts of : List ℕ) : Type 0 where
+-- the keys of the first n items, each once in the order in which they came, the item with which
+-- each came first, and the number of each item's key
+pub record AreNumbered (key : ℕ → List ℕ) (n : ℕ) (seen : List (List ℕ))
+    (firsts of : List ℕ) : Type 0 where
   pub are : seen ≡ map key firsts
   pub below : (i : ℕ) → In i firsts → i < n
   pub each : AreEach (λ i k. (k < length firsts) × (key (slice_index_or firsts k 0) ≡ key i)) 0 n of
@@ -37,7 +39,8 @@ pub record AreNumbered (key : ℕ → List ℕ) (n : ℕ) (seen : List (List ℕ
 pub record AreKinds (lists kinds : List (List ℕ)) (kind_of : List ℕ) : Type 0 where
   pub long : length kind_of ≡ length lists
   pub within : (i : ℕ) → i < length lists → slice_index_or kind_of i 0 < length kinds
-  pub each : (i : ℕ) → i < length lists → listed_for kinds (slice_index_or kind_of i 0) ≡ listed_for lists i
+  pub each : (i : ℕ) → i < length lists →
+      listed_for kinds (slice_index_or kind_of i 0) ≡ listed_for lists i
   pub only : (c : List ℕ) → In c kinds → In c lists
 
 -- for each name the number of the pair of its kinds, and no other pairs
@@ -45,8 +48,10 @@ pub record AreJoined (old_of new_of olds news joint_of : List ℕ) : Type 0 wher
   pub long : length joint_of ≡ length new_of
   pub same : length olds ≡ length news
   pub within : (i : ℕ) → i < length new_of → slice_index_or joint_of i 0 < length news
-  pub each_old : (i : ℕ) → i < length new_of → slice_index_or olds (slice_index_or joint_of i 0) 0 ≡ slice_index_or old_of i 0
-  pub each_new : (i : ℕ) → i < length new_of → slice_index_or news (slice_index_or joint_of i 0) 0 ≡ slice_index_or new_of i 0
+  pub each_old : (i : ℕ) → i < length new_of →
+      slice_index_or olds (slice_index_or joint_of i 0) 0 ≡ slice_index_or old_of i 0
+  pub each_new : (i : ℕ) → i < length new_of →
+      slice_index_or news (slice_index_or joint_of i 0) 0 ≡ slice_index_or new_of i 0
   pub only_old : (k : ℕ) → In k olds → In k old_of
   pub only_new : (k : ℕ) → In k news → In k new_of
 
@@ -63,4 +68,5 @@ abbrev pub alone_in : Judge → ℕ → Verdict
 alone_in judge k = alone (kernel_in judge) judge.budget (listed_for judge.kinds.items k)
 
 abbrev pub together_in : Judge → ℕ → ℕ → Verdict
-together_in judge first second = together (kernel_in judge) judge.budget (listed_for judge.kinds.items first) (listed_for judge.kinds.items second)
+together_in judge first second = together (kernel_in judge) judge.budget
+    (listed_for judge.kinds.items first) (listed_for judge.kinds.items second)

@@ -1,10 +1,11 @@
--- What a comparison of two indexes lists, said of the indexes alone. `Finds` is what it is for a search to find a verdict on names: by the tree that is
--- computed (`Judged`), without a budget (`IsTrueOf`), or, in the sentences on what is printed, by the text of the kernel.
-use Rattle.std.specs.Prelude.{◌≡◌, ◌↔◌, ◌⊎◌, ⊤, Bool, true, false, List, [], ◌∷◌}
+-- What a comparison of two indexes lists, said of the indexes alone. `Finds` is what it is for a
+-- search to find a verdict on names. That is by the tree that is computed (`Judged`), or without a
+-- budget (`IsTrueOf`). In the sentences on what is printed it is by the text of the kernel.
+use Rattle.std.specs.Prelude.{ℕ, ◌≡◌, ◌↔◌, ◌⊎◌, ⊤, Bool, true, false, List, [], ◌∷◌}
 use Rattle.clause_pool.specs.Lists.{Before}
 use Rattle.clause_solver.specs.{declared.outcomes.Verdict.{Verdict}, declared.outcomes.Verdict.TheVariants.{Yes, No, Spent}}
 use Rattle.listed.specs.Lists.{In}
-use Rattle.suite_compare.specs.{Indexes.{Name, SearchedIndex, HasPackageOf, Installable, IsTrueOf}, declared.report.ReportLine.{ReportLine}}
+use Rattle.suite_compare.specs.{Indexes.{SearchedIndex, HasPackageOf, Installable, IsTrueOf}, declared.report.ReportLine.{ReportLine}}
 use Rattle.suite_compare.specs.declared.report.ReportLine.TheVariants.{Broken1, Broken2, Open1, Open2}
 
 -- whether the line says `broken`
@@ -15,14 +16,15 @@ is_broken (Open1 name) = false
 is_broken (Open2 first second) = false
 
 -- the names of a line
-abbrev pub names_of : ReportLine → List Name
+abbrev pub names_of : ReportLine → List (List ℕ)
 names_of (Broken1 a) = a ∷ []
 names_of (Broken2 a b) = a ∷ b ∷ []
 names_of (Open1 a) = a ∷ []
 names_of (Open2 a b) = a ∷ b ∷ []
 
--- names come before pairs; names, and pairs by their first names and then by their second ones, in the order of bytes
-abbrev pub Precedes : List Name → List Name → Type 0
+-- Names come before pairs. Names come in the order of bytes, and pairs in that of their first names
+-- and then of their second ones.
+abbrev pub Precedes : List (List ℕ) → List (List ℕ) → Type 0
 Precedes (a ∷ []) (b ∷ []) = Before a b
 Precedes (a ∷ []) (c ∷ d ∷ []) = ⊤
 Precedes (a ∷ b ∷ []) (c ∷ d ∷ []) = Before a c ⊎ ((a ≡ c) × Before b d)
@@ -31,45 +33,60 @@ Precedes first second = ⊥
 -- each line precedes all that come after it, so no two are about the same names
 abbrev pub AreInOrder : List ReportLine → Type 0
 AreInOrder [] = ⊤
-AreInOrder (line ∷ more) = ((other : ReportLine) → In other more → Precedes (names_of line) (names_of other)) × AreInOrder more
+AreInOrder (line ∷ more) = ((other : ReportLine) → In other more →
+    Precedes (names_of line) (names_of other)) × AreInOrder more
 
--- both indexes have the name
-abbrev pub BothHave : SearchedIndex → SearchedIndex → Name → Type 0
-BothHave old new name = HasPackageOf old name × HasPackageOf new name
-
--- what is asked: each name of both, and each two such names, in the order of their bytes, each of which is found installable alone
--- in the newer one
-abbrev pub IsAsked : (SearchedIndex → List Name → Verdict → Type 0) → SearchedIndex → SearchedIndex → List Name → Type 0
-IsAsked Finds old new (a ∷ []) = BothHave old new a
-IsAsked Finds old new (a ∷ b ∷ []) = Before a b × BothHave old new a × BothHave old new b × Finds new (a ∷ []) Yes × Finds new (b ∷ []) Yes
+-- What is asked: each name of both, and each two such names, in the order of their bytes, that are
+-- each found installable alone in the newer one.
+abbrev pub IsAsked : (SearchedIndex → List (List ℕ) → Verdict → Type 0) → SearchedIndex →
+    SearchedIndex → List (List ℕ) → Type 0
+IsAsked Finds old new (a ∷ []) = HasPackageOf old a × HasPackageOf new a
+IsAsked Finds old new (a ∷ b ∷ []) = Before a b × (HasPackageOf old a × HasPackageOf new a)
+    × (HasPackageOf old b × HasPackageOf new b) × Finds new (a ∷ []) Yes × Finds new (b ∷ []) Yes
 IsAsked Finds old new names = ⊥
 
 -- it is found that the older index can install these names together, and that the newer one cannot
-abbrev pub IsBroken : (SearchedIndex → List Name → Verdict → Type 0) → SearchedIndex → SearchedIndex → List Name → Type 0
+abbrev pub IsBroken : (SearchedIndex → List (List ℕ) → Verdict → Type 0) → SearchedIndex →
+    SearchedIndex → List (List ℕ) → Type 0
 IsBroken Finds old new names = Finds old names Yes × Finds new names No
 
--- the newer search spends its budget; or the newer index cannot install these names together, and the older search spends its budget
-abbrev pub IsUndecided : (SearchedIndex → List Name → Verdict → Type 0) → SearchedIndex → SearchedIndex → List Name → Type 0
-IsUndecided Finds old new names = Finds new names Spent ⊎ (Finds new names No × Finds old names Spent)
+-- the newer search spends its budget; or the newer index cannot install these names together, and
+-- the older search spends its budget
+abbrev pub IsUndecided : (SearchedIndex → List (List ℕ) → Verdict → Type 0) → SearchedIndex →
+    SearchedIndex → List (List ℕ) → Type 0
+IsUndecided Finds old new names =
+    Finds new names Spent ⊎ (Finds new names No × Finds old names Spent)
 
--- The list has a broken line for exactly those names and pairs that are asked and broken, and an open line for exactly those that are asked and
--- open. The lines are in order, no two about the same names.
-pub record ListsExactly (Finds : SearchedIndex → List Name → Verdict → Type 0) (old new : SearchedIndex) (lines : List ReportLine) : Type 0 where
-  pub broken : (l : ReportLine) → is_broken l ≡ true → (In l lines ↔ (IsAsked Finds old new (names_of l) × IsBroken Finds old new (names_of l)))
-  pub undecided : (l : ReportLine) → is_broken l ≡ false → (In l lines ↔ (IsAsked Finds old new (names_of l) × IsUndecided Finds old new (names_of l)))
+-- The list has a broken line for exactly those names and pairs that are asked and broken, and an
+-- open line for exactly those that are asked and open. The lines are in order, no two about the
+-- same names.
+pub record ListsExactly (Finds : SearchedIndex → List (List ℕ) → Verdict → Type 0)
+    (old new : SearchedIndex) (lines : List ReportLine) : Type 0 where
+  pub broken : (l : ReportLine) → is_broken l ≡ true →
+      (In l lines ↔ (IsAsked Finds old new (names_of l) × IsBroken Finds old new (names_of l)))
+  pub undecided : (l : ReportLine) → is_broken l ≡ false →
+      (In l lines ↔ (IsAsked Finds old new (names_of l) × IsUndecided Finds old new (names_of l)))
   pub order : AreInOrder lines
 
 -- no line is open
 abbrev pub HasNoOpenLine : List ReportLine → Type 0
 HasNoOpenLine lines = (l : ReportLine) → In l lines → is_broken l ≡ true
 
--- The list has a broken line for exactly those names of both indexes that are lost, and for exactly those pairs that are lost though
--- neither name is: no budget is spoken of.
+-- The list has a broken line for exactly those names of both indexes that are lost. It has one for
+-- exactly those pairs of them that are lost and whose names the newer index can each install alone.
+-- No budget is spoken of.
 abbrev pub ListsLosses : SearchedIndex → SearchedIndex → List ReportLine → Type 0
-ListsLosses old new lines = (l : ReportLine) → is_broken l ≡ true → (In l lines ↔ (IsAsked IsTrueOf old new (names_of l) × IsBroken IsTrueOf old new (names_of l)))
+ListsLosses old new lines = (l : ReportLine) → is_broken l ≡ true →
+    (In l lines ↔ (IsAsked IsTrueOf old new (names_of l) × IsBroken IsTrueOf old new (names_of l)))
 
--- Of the names that both indexes have, the new index can install each that the old one can, and each two together that the old one
--- can install together.
+-- both indexes have the name
+abbrev pub BothHave : SearchedIndex → SearchedIndex → List ℕ → Type 0
+BothHave old new name = HasPackageOf old name × HasPackageOf new name
+
+-- Of the names that both indexes have, the new index can install each that the old one can, and
+-- each two together that the old one can install together.
 pub record LosesNothing (old new : SearchedIndex) : Type 0 where
-  pub names : (name : Name) → BothHave old new name → Installable old (name ∷ []) → Installable new (name ∷ [])
-  pub pairs : (first second : Name) → BothHave old new first → BothHave old new second → Installable old (first ∷ (second ∷ [])) → Installable new (first ∷ (second ∷ []))
+  pub names : (name : List ℕ) → BothHave old new name → Installable old (name ∷ []) →
+      Installable new (name ∷ [])
+  pub pairs : (first second : List ℕ) → BothHave old new first → BothHave old new second →
+      Installable old (first ∷ (second ∷ [])) → Installable new (first ∷ (second ∷ []))

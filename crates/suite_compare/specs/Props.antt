@@ -1,4 +1,5 @@
--- Equations of verdicts, numbers and texts, and what is said by them, have one proof at most, so that a struct may keep it.
+-- Equations of verdicts, numbers and texts, and what is said by them, have one proof at most, so
+-- that a struct may keep it.
 use Rattle.std.specs.Prelude.{ℕ, Bool, true, false, if◌then◌else◌, List, map, refl}
 use Rattle.std.specs.Coded.{Coded, Coded-set, code_by, coded×, coded_bool, coded_list, coded_ℕ}
 use Rattle.clause_solver.specs.{declared.outcomes.Verdict.{Verdict}, declared.outcomes.Verdict.TheVariants.{Yes, No, Spent}}
@@ -21,4 +22,5 @@ pub verdict-set : IsSet Verdict
 verdict-set = Coded-set verdict_code
 
 pub AreSingles-prop : (judge : Judge) (singles : List Verdict) → IsProp (AreSingles judge singles)
-AreSingles-prop judge singles = Coded-set (coded_list verdict_code) singles (map (alone (kernel_in judge) judge.budget) judge.kinds.items)
+AreSingles-prop judge singles = Coded-set (coded_list verdict_code) singles
+    (map (alone (kernel_in judge) judge.budget) judge.kinds.items)

@@ -15,7 +15,8 @@ abbrev pub home_in : List ℕ → Home
 home_in text = record { name = home_of (stanzas_of text) }
 
 -- the clause limit is passed, in this round and with this package, which has this name and version
-pub record PassesLimit (home : Home) (stanzas : List PackageFacts) (limit : ℕ) (hold : Bool) (passed : PassedRound) (name version : List ℕ) : Type 0 where
+pub record PassesLimit (home : Home) (stanzas : List PackageFacts) (limit : ℕ) (hold : Bool)
+    (passed : PassedRound) (name version : List ℕ) : Type 0 where
   pub there : limit_at limit hold (suite_repository home stanzas) ≡ Some passed
   pub name_is : name ≡ (stanza_at stanzas passed.over).name
   pub version_is : version ≡ (stanza_at stanzas passed.over).version
@@ -23,12 +24,19 @@ pub record PassesLimit (home : Home) (stanzas : List PackageFacts) (limit : ℕ)
 -- a refusal is the limit that is passed, unless memory ran out
 abbrev pub RefusesSuite : Home → List PackageFacts → ℕ → Bool → LimitError → Type 0
 RefusesSuite home stanzas limit hold (Limit round gone over count name version) =
-    PassesLimit home stanzas limit hold (record { number = round; gone = gone; over = over; count = count }) name version
+    PassesLimit home stanzas limit hold (record {
+      number = round;
+      gone = gone;
+      over = over;
+      count = count;
+    }) name version
 RefusesSuite home stanzas limit hold Memory = ⊤
 
--- a refusal is the first fault of the index, or the limit that an index without fault passes, unless memory ran out
+-- a refusal is the first fault of the index, or the limit that an index without fault passes,
+-- unless memory ran out
 abbrev pub RefusesIndex : List ℕ → ℕ → Bool → ViewError → Type 0
 RefusesIndex text limit hold (view.Index fault) = first_fault text ≡ Some fault
 RefusesIndex text limit hold (view.Limit round gone over count name version) =
-    (first_fault text ≡ None) × PassesLimit (home_in text) (packages_in text) limit hold (record { number = round; gone = gone; over = over; count = count }) name version
+    (first_fault text ≡ None) × PassesLimit (home_in text) (packages_in text) limit hold
+    (record { number = round; gone = gone; over = over; count = count }) name version
 RefusesIndex text limit hold view.Memory = ⊤

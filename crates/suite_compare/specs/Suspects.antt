@@ -5,9 +5,10 @@ use Rattle.listed.specs.Lists.{In}
 use Rattle.row_book.specs.{Book.{listed_for}, Repository.{Repository}}
 use Rattle.suite_compare.specs.{Choices.{ArePeaceful, IsChosen}, Groups.{AreEach}, declared.suspect.Choices.{Choices}}
 
--- a first choice for each of the first n kinds, empty where it has none
+-- a first choice for each of the first n kinds; empty if it has none
 abbrev pub AreAllChosen : Repository → List (List ℕ) → ℕ → List (List ℕ) → Type 0
-AreAllChosen R kinds n choices = AreEach (λ k choice. IsChosen R (listed_for kinds k) choice) [] n choices
+AreAllChosen R kinds n choices =
+    AreEach (λ k choice. IsChosen R (listed_for kinds k) choice) [] n choices
 
 -- the kind is entered under each of the classes, and nothing else is new
 pub record AreHeld (old new : List (List ℕ)) (classes : List ℕ) (kind : ℕ) : Type 0 where
@@ -38,10 +39,13 @@ pub record AreJoinable (conflicts : List (List ℕ)) (S T : List ℕ) : Type 0 w
   pub peace : ArePeaceful conflicts S T
 
 -- kinds, and each kind whose first choice is not known to be at peace with that of the given one
-pub record AreSuspects (conflicts choices : List (List ℕ)) (kind : ℕ) (suspects : List ℕ) : Type 0 where
-  pub all : (k : ℕ) → k < length choices → In k suspects ⊎ AreJoinable conflicts (listed_for choices kind) (listed_for choices k)
+pub record AreSuspects (conflicts choices : List (List ℕ)) (kind : ℕ)
+    (suspects : List ℕ) : Type 0 where
+  pub all : (k : ℕ) → k < length choices →
+      In k suspects ⊎ AreJoinable conflicts (listed_for choices kind) (listed_for choices k)
   pub only : (k : ℕ) → In k suspects → k < length choices
 
 -- the kinds under the classes that conflict with one of some classes
 abbrev pub facing : List (List ℕ) → List (List ℕ) → List ℕ → List ℕ
-facing conflicts table classes = flat_map (λ c. flat_map (listed_for table) (listed_for conflicts c)) classes
+facing conflicts table classes =
+    flat_map (λ c. flat_map (listed_for table) (listed_for conflicts c)) classes

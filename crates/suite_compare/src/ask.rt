@@ -20,10 +20,13 @@ pub(crate) struct Asked {
 
 /// What the goals ask for, or the first of them that names no package.
 pub(crate) fn ask(alloc: Global, view: &SuiteView, goals: &[Goal]) -> Result<Asked, DecideError>
-    ensures packages { IfOk result (λ asked. asked.packages ≡ wanted_by view.now.suite.packages goals.now) }
-    ensures classes { IfOk result (λ asked. asked.classes ≡ images_of view.now.limit view.now.kernel.hold view.now.suite.home view.now.suite.packages goals.now) }
+    ensures packages { IfOk result (λ asked. asked.packages
+        ≡ wanted_by view.now.suite.packages goals.now) }
+    ensures classes { IfOk result (λ asked. asked.classes ≡ images_of view.now.limit
+        view.now.kernel.hold view.now.suite.home view.now.suite.packages goals.now) }
     ensures known { OnOk result (unknown_goal view.now.suite.packages goals.now ≡ None) }
-    ensures unknown { IfErr result (OnUnknown (λ goal. unknown_goal view.now.suite.packages goals.now ≡ Some goal)) }
+    ensures unknown { IfErr result (OnUnknown (λ goal.
+        unknown_goal view.now.suite.packages goals.now ≡ Some goal)) }
 {
     let mut packages = Needs::new(alloc);
     let mut classes = Needs::new(alloc);
@@ -44,7 +47,8 @@ pub(crate) fn ask(alloc: Global, view: &SuiteView, goals: &[Goal]) -> Result<Ask
 /// The classes of some packages, ascending.
 pub fn image_of(alloc: Global, view: &SuiteView, chosen: &[u32]) -> Result<Vec<u32>, AllocError>
     requires { (n : ℕ) → In n chosen.now → n < length view.now.suite.packages }
-    ensures { IfOk result (λ image. image.items ≡ goal_classes view.now.limit view.now.kernel.hold (suite_repository view.now.suite.home view.now.suite.packages) chosen.now) }
+    ensures { IfOk result (λ image. image.items ≡ goal_classes view.now.limit view.now.kernel.hold
+        (suite_repository view.now.suite.home view.now.suite.packages) chosen.now) }
 {
     let classes = classes_by(alloc, view.kernel.class_of.as_slice(), chosen)?;
     Ok(classes)
@@ -67,7 +71,8 @@ pub(crate) fn classes_by(
 // The class of each of the packages.
 fn each_class(alloc: Global, class_of: &[u32], chosen: &[u32]) -> Result<Vec<u32>, AllocError>
     requires { (n : ℕ) → In n chosen.now → n < length class_of.now }
-    ensures { IfOk result (λ classes. classes.items ≡ map (λ n. slice_index_or class_of.now n 0) chosen.now) }
+    ensures { IfOk result (λ classes. classes.items
+        ≡ map (λ n. slice_index_or class_of.now n 0) chosen.now) }
 {
     let mut classes = Vec::new(alloc);
     for number in chosen {

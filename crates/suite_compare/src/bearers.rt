@@ -10,7 +10,8 @@ use crate::places::name_at;
 use repo_model::{LentName, Suite};
 use std::alloc::{AllocError, Global};
 
-/// The packages that bear each name, of any version, ascending; none where no package does.
+/// For each name the packages that bear it, of any version, ascending. The list is empty if there
+/// is none.
 pub fn bearers_of(
     alloc: Global,
     suite: &Suite,
@@ -80,8 +81,10 @@ pub(crate) fn classes_of_each(
     class_of: &[u32],
     lists: &[FewNumbers],
 ) -> Result<Vec<FewNumbers>, AllocError>
-    requires { (chosen : List ℕ) → In chosen lists.now → (n : ℕ) → In n chosen → n < length class_of.now }
-    ensures { IfOk result (λ made. AreEach (λ i image. AreClasses class_of.now (listed_for lists.now i) image) [] (length lists.now) made.items) }
+    requires { (chosen : List ℕ) → In chosen lists.now → (n : ℕ) → In n chosen →
+        n < length class_of.now }
+    ensures { IfOk result (λ made. AreEach (λ i image.
+        AreClasses class_of.now (listed_for lists.now i) image) [] (length lists.now) made.items) }
 {
     let mut made = Vec::new(alloc);
     for place in 0..lists.len() {
@@ -98,9 +101,11 @@ pub fn classes_of_chosen(
     lists: &[FewNumbers],
     flags: &[bool],
 ) -> Result<Vec<FewNumbers>, AllocError>
-    requires flags { (chosen : List ℕ) → In chosen lists.now → (n : ℕ) → In n chosen → n < length flags.now }
+    requires flags { (chosen : List ℕ) → In chosen lists.now → (n : ℕ) → In n chosen →
+        n < length flags.now }
     requires classes { length class_of.now ≡ length flags.now }
-    ensures { IfOk result (λ made. AreEach (λ i image. AreClasses class_of.now (filter (flag flags.now) (listed_for lists.now i)) image) [] (length lists.now) made.items) }
+    ensures { IfOk result (λ made. AreEach (λ i image. AreClasses class_of.now (filter
+        (flag flags.now) (listed_for lists.now i)) image) [] (length lists.now) made.items) }
 {
     let mut made = Vec::new(alloc);
     let mut chosen = Vec::new(alloc);
@@ -126,7 +131,8 @@ fn put_chosen(chosen: &mut Vec<u32>, numbers: &[u32], flags: &[bool]) -> Result<
     Ok(())
 }
 
-// The classes of a few packages, ascending, by the class of each package. That of a single one is not sorted.
+// The classes of a few packages, ascending, by the class of each package. That of a single one is
+// not sorted.
 fn classes_of_few(alloc: Global, class_of: &[u32], chosen: &[u32]) -> Result<FewNumbers, AllocError>
     requires { (n : ℕ) → In n chosen.now → n < length class_of.now }
     ensures { IfOk result (AreClasses class_of.now chosen.now) }

@@ -1,6 +1,6 @@
 //! First choices: sets of classes that show, without a search, that goals can be met.
 //!
-//! A set is made first and tested then, so that nothing has to be known of how it was made.
+//! A set is made first and then tested, so that no proof needs to know how it was made.
 ghost use Rattle.std.specs.{Prelude.{◌≡◌, ◌<◌, ◌∷◌, [], ℕ, List, true, IfOk, OnOk, length}, List.{list_any}};
 ghost use Rattle.clause_pool.specs.Interned.{clauses_at, OfPool};
 ghost use Rattle.listed.specs.Lists.{In, has};
@@ -17,14 +17,16 @@ use std::alloc::{AllocError, Global};
 fn row_of<'a>(kernel: &LentBook<'a>, class: u32) -> &'a [ClauseId]
     requires { class < length kernel.now.book.now.rows }
     ensures of_pool { OfPool kernel.now.pool.now result.now }
-    ensures clauses { clauses_at kernel.now.pool.now result.now ≡ clauses_of (repository_in kernel.now) class }
-    ensures numbers { (c : List ℕ) → In c (clauses_at kernel.now.pool.now result.now) → AreBelow (length kernel.now.book.now.rows) c }
+    ensures clauses { clauses_at kernel.now.pool.now result.now
+        ≡ clauses_of (repository_in kernel.now) class }
+    ensures numbers { (c : List ℕ) → In c (clauses_at kernel.now.pool.now result.now) →
+        AreBelow (length kernel.now.book.now.rows) c }
 {
     let id = kernel.book.row(class);
     kernel.pool.row(id)
 }
 
-/// Puts the first member of a clause behind the others, where it has one.
+/// Adds the first member of a clause, if it has one.
 fn put_first(clause: &[u32], chosen: &mut ClassSet) -> Result<(), AllocError>
     requires { AreBelow chosen.old.0 clause.now }
     ensures { OnOk result (chosen.new.0 ≡ chosen.old.0) }
@@ -35,8 +37,8 @@ fn put_first(clause: &[u32], chosen: &mut ClassSet) -> Result<(), AllocError>
     chosen.put(clause[0])
 }
 
-/// Puts the first member of each clause of a row behind the others, until these are too many, as they are where a hostile index
-/// gives a class thousands of clauses.
+/// Adds the first member of each clause of a row, until there are too many: a hostile index may
+/// give a class thousands of clauses.
 fn put_firsts(
     pool: &Pool,
     row: &[ClauseId],
@@ -56,7 +58,8 @@ fn put_firsts(
     Ok(())
 }
 
-/// Puts the first member of each clause of what is chosen behind the others, until none is missing, or these are too many.
+/// Adds the first member of each clause of what is chosen, until none is missing, or there are too
+/// many.
 fn follow(kernel: &LentBook, most: usize, chosen: &mut ClassSet) -> Result<(), AllocError>
     requires { chosen.old.0 ≡ length kernel.now.book.now.rows }
     ensures { OnOk result (chosen.new.0 ≡ length kernel.now.book.now.rows) }
@@ -103,7 +106,8 @@ fn conflicts_with_one(book: &Book, class: u32, chosen: &ClassSet) -> bool
     book.against(class).iter().any(|other| chosen.has(*other))
 }
 
-/// Whether the set has the first member of each clause of a class, and no class that it conflicts with.
+/// Whether the set has the first member of each clause of a class, and no class that it conflicts
+/// with.
 fn is_served(kernel: &LentBook, class: u32, chosen: &ClassSet) -> bool
     requires { class < length kernel.now.book.now.rows }
     ensures { result ≡ true → IsServed (repository_in kernel.now) chosen.now.1 class }
@@ -117,7 +121,8 @@ fn is_served(kernel: &LentBook, class: u32, chosen: &ClassSet) -> bool
 /// Whether the set is a first choice of a goal.
 fn is_first_choice(kernel: &LentBook, goal: &[u32], chosen: &ClassSet) -> bool
     requires { chosen.now.0 ≡ length kernel.now.book.now.rows }
-    ensures { result ≡ true → IsFirstChoice (repository_in kernel.now) (goal.now ∷ []) (has chosen.now.1) }
+    ensures { result ≡ true →
+        IsFirstChoice (repository_in kernel.now) (goal.now ∷ []) (has chosen.now.1) }
 {
     for class in chosen.as_slice() {
         if !is_served(kernel, *class, chosen) {
@@ -127,8 +132,9 @@ fn is_first_choice(kernel: &LentBook, goal: &[u32], chosen: &ClassSet) -> bool
     has_first(goal, chosen)
 }
 
-/// The first choice of a goal: its first member, and the first member of each clause of what is chosen, where no two of
-/// these conflict; the empty list where there is none, or none so short. It is made in a set that is emptied first.
+/// The first choice of a goal: its first member, and the first member of each clause of what is
+/// chosen, if no two of these conflict. The list is empty if there is no such set, or none this
+/// short. It is made in a set that is emptied first.
 pub(crate) fn first_choice(
     alloc: Global,
     kernel: &LentBook,

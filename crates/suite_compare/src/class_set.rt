@@ -6,7 +6,8 @@ ghost use Rattle.suite_compare.specs.Choices.{with_class, AreBelow};
 use std::alloc::{AllocError, Global};
 use std::marker::Model;
 
-/// Classes, each once, in the order in which they were put in, and a flag for each class that there is.
+/// Classes, each once, in the order in which they were added, and a flag for each class that there
+/// is.
 #[derive(Drop)]
 pub(crate) struct ClassSet {
     flags: Vec<bool>,
@@ -25,7 +26,7 @@ impl Model for ClassSet {
 }
 
 impl ClassSet {
-    /// The empty set, of so many classes.
+    /// The empty set of `classes` classes.
     pub(crate) fn new(alloc: Global, classes: u32) -> Result<ClassSet, AllocError>
         ensures { IfOk result (λ set. set ≡ (classes, [])) }
     {
@@ -50,7 +51,7 @@ impl ClassSet {
         self.members.as_slice()
     }
 
-    /// Puts the class behind the others, where it is not there yet.
+    /// Appends the class, unless it is there already.
     pub(crate) fn put(&mut self, class: u32) -> Result<(), AllocError>
         requires { class < self.old.0 }
         ensures { OnOk result (self.new ≡ (self.old.0, with_class self.old.1 class)) }
@@ -63,7 +64,7 @@ impl ClassSet {
         Ok(())
     }
 
-    /// Takes all classes out.
+    /// Removes all classes.
     pub(crate) fn clear(&mut self)
         ensures { self.new ≡ (self.old.0, []) }
     {

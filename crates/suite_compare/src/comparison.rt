@@ -1,7 +1,7 @@
 //! What a new suite has broken of an old one.
 //!
-//! Names with the same classes have the same verdicts, so kinds are asked. A pair is searched in the order of its names, since
-//! the number of failed leaves may depend on it.
+//! Names with the same classes have the same verdicts, so kinds are asked. A pair is searched in
+//! the order of its names, since the number of failed leaves may depend on it.
 ghost use Rattle.std.specs.{Prelude.{◌≡◌, ◌<◌, ◌++◌, [], ℕ, List, IfOk, OnOk, length, slice_index_or}, Option.{ForSome}};
 ghost use Rattle.listed.specs.Lists.{In};
 ghost use Rattle.relation_fields.specs.{declared.packages.Home.{Home}, declared.packages.PackageFacts.{PackageFacts}};
@@ -27,7 +27,8 @@ use crate::view::SuiteView;
 use row_book::LentBook;
 use std::alloc::{AllocError, Global};
 
-/// For each joint (a kind in the old suite with one in the new), the names that are broken or open beside its names.
+/// For each joint (a kind in the old suite with one in the new), the names that are broken or open
+/// beside its names.
 fn all_partners(
     alloc: Global,
     old: &Judge,
@@ -35,9 +36,11 @@ fn all_partners(
     bad: &[BadList],
 ) -> Result<Vec<Partners>, AllocError>
     requires fits { IsJointTable table.now }
-    requires olds { (a : ℕ) → a < length table.now.joints.old.items → old_kind table.now a < length old.now.kinds.items }
+    requires olds { (a : ℕ) → a < length table.now.joints.old.items →
+        old_kind table.now a < length old.now.kinds.items }
     requires count { length table.now.by_new.items ≡ length bad.now }
-    requires bad { (k : ℕ) (b : Bad) → In b (slice_index_or bad.now k []) → b.kind < length bad.now }
+    requires bad { (k : ℕ) (b : Bad) → In b (slice_index_or bad.now k []) →
+        b.kind < length bad.now }
     ensures { IfOk result (λ partners. IsTable old.now table.now bad.now partners.items) }
 {
     let mut made = Vec::new(alloc);
@@ -52,7 +55,8 @@ fn all_partners(
 
 /// The lines of the names by themselves.
 fn single_lines(alloc: Global, sides: &NewSide) -> Result<LineList, AllocError>
-    ensures { (v w : List (List ℕ) → Verdict) → AreBothVerdicts sides.now v w → IfOk result (λ lines. lines ≡ told_singles v w sides.now.part.names.items) }
+    ensures { (v w : List (List ℕ) → Verdict) → AreBothVerdicts sides.now v w →
+        IfOk result (λ lines. lines ≡ told_singles v w sides.now.part.names.items) }
 {
     let part = &sides.part;
     let mut lines = LineList::new(alloc);
@@ -73,7 +77,8 @@ fn put_pair_lines(
     lines: &mut LineList,
 ) -> Result<(), AllocError>
     requires { AreAllBad sides.now.side.judge bad.now }
-    ensures { (v w : List (List ℕ) → Verdict) → AreBothVerdicts sides.now v w → OnOk result (lines.new ≡ lines.old ++ told_pairs v w sides.now.part.names.items) }
+    ensures { (v w : List (List ℕ) → Verdict) → AreBothVerdicts sides.now v w →
+        OnOk result (lines.new ≡ lines.old ++ told_pairs v w sides.now.part.names.items) }
 {
     let table = joint_table(alloc, sides)?;
     let partners = all_partners(alloc, &sides.old.judge, &table, bad)?;
@@ -83,7 +88,8 @@ fn put_pair_lines(
 
 /// The lines of a report on the names of both sides.
 fn lines_of(alloc: Global, sides: &NewSide) -> Result<LineList, AllocError>
-    ensures { (v w : List (List ℕ) → Verdict) → AreBothVerdicts sides.now v w → IfOk result (λ lines. lines ≡ told_report v w sides.now.part.names.items) }
+    ensures { (v w : List (List ℕ) → Verdict) → AreBothVerdicts sides.now v w →
+        IfOk result (λ lines. lines ≡ told_report v w sides.now.part.names.items) }
 {
     let mut lines = single_lines(alloc, sides)?;
     let bad = bad_lists(alloc, &sides.side.judge, &sides.side.singles)?;
@@ -91,21 +97,24 @@ fn lines_of(alloc: Global, sides: &NewSide) -> Result<LineList, AllocError>
     Ok(lines)
 }
 
-/// The lines of names by themselves, or those of pairs if there are none, and what is known of pairs then.
+/// The lines of names by themselves, or those of pairs if there are none, and the judged pairs for
+/// a later comparison.
 #[derive(Drop)]
 struct FirstLines {
     lines: LineList,
     known: Option<KnownPairs>,
 }
 
-/// The lines of a report on the names of both sides, but none of pairs if a name has a line by itself; by what is known of pairs, if that tells of these.
+/// The lines of a report on the names of both sides, but none of pairs if a name has a line by
+/// itself. Pairs judged in an earlier comparison are reused if it asked the same.
 fn first_lines_of(
     alloc: Global,
     sides: &NewSide,
     known: Option<KnownPairs>,
 ) -> Result<FirstLines, AllocError>
     requires { ForSome known AreKnownPairs }
-    ensures lines { (v w : List (List ℕ) → Verdict) → AreBothVerdicts sides.now v w → IfOk result (λ made. first_told made.lines ≡ first_told (told_report v w sides.now.part.names.items)) }
+    ensures lines { (v w : List (List ℕ) → Verdict) → AreBothVerdicts sides.now v w → IfOk result
+        (λ made. first_told made.lines ≡ first_told (told_report v w sides.now.part.names.items)) }
     ensures known { IfOk result (λ made. ForSome made.known AreKnownPairs) }
 {
     let mut lines = single_lines(alloc, sides)?;
@@ -120,10 +129,11 @@ fn first_lines_of(
     })
 }
 
-/// What the new suite has broken of the old one, within a budget of failed leaves a search, from 1 to 1,000,000: the names
-/// that both have and that are not installable any more, and of those that each are installable in the new suite the pairs
-/// that are not installable together any more; open where a search spent the budget. Both views were made at one and the same
-/// clause limit, and both with hold or both without. It fails only where no memory is found.
+/// What the new suite has broken of the old one, within a budget of failed leaves a search, from 1
+/// to 1,000,000. A name of both is broken if it is not installable any more. A pair of names of
+/// both is broken if each is installable in the new suite, and the two together are not any more. A
+/// name or a pair is open if a search that was needed spent the budget. Both views were made at one
+/// and the same clause limit, and both with hold or both without.
 pub fn compare(
     alloc: Global,
     old: &SuiteView,
@@ -133,7 +143,11 @@ pub fn compare(
     requires budget { IsBudget budget }
     requires limit { new.now.limit ≡ old.now.limit }
     requires hold { new.now.kernel.hold ≡ old.now.kernel.hold }
-    ensures { IfOk result (λ made. made.lines ≡ report (verdict_in old.now.limit old.now.kernel.hold old.now.suite.home old.now.suite.packages budget) (verdict_in old.now.limit old.now.kernel.hold new.now.suite.home new.now.suite.packages budget)
+    ensures { IfOk result (λ made. made.lines ≡ report
+        (verdict_in old.now.limit old.now.kernel.hold
+        old.now.suite.home old.now.suite.packages budget)
+        (verdict_in old.now.limit old.now.kernel.hold
+        new.now.suite.home new.now.suite.packages budget)
         (names_of_both old.now.suite.packages new.now.suite.packages)) }
 {
     let before = OldSide::new(alloc, old, budget)?;
@@ -142,11 +156,16 @@ pub fn compare(
     report
 }
 
-/// What a new suite has broken of an old one. Both views were made at one and the same clause limit, and both with hold or both without.
+/// What a new suite has broken of an old one. Both views were made at one and the same clause
+/// limit, and both with hold or both without.
 fn report_of(alloc: Global, old: &OldSide, new: &SuiteView) -> Result<Report, AllocError>
     requires limit { new.now.limit ≡ old.now.view.now.limit }
     requires hold { new.now.kernel.hold ≡ old.now.view.now.kernel.hold }
-    ensures { let view = old.now.view.now in IfOk result (λ made. made.lines ≡ report (verdict_in view.limit view.kernel.hold view.suite.home view.suite.packages old.now.budget) (verdict_in view.limit view.kernel.hold new.now.suite.home new.now.suite.packages old.now.budget)
+    ensures { let view = old.now.view.now in IfOk result (λ made. made.lines ≡ report
+        (verdict_in view.limit view.kernel.hold
+        view.suite.home view.suite.packages old.now.budget)
+        (verdict_in view.limit view.kernel.hold
+        new.now.suite.home new.now.suite.packages old.now.budget)
         (names_of_both view.suite.packages new.now.suite.packages)) }
 {
     let after = new_side_of(alloc, old, new)?;
@@ -157,14 +176,16 @@ fn report_of(alloc: Global, old: &OldSide, new: &SuiteView) -> Result<Report, Al
 
 /// What a new side has broken of an old one.
 fn report_beside(alloc: Global, sides: &NewSide) -> Result<Report, AllocError>
-    ensures { (v w : List (List ℕ) → Verdict) → AreBothVerdicts sides.now v w → IfOk result (λ made. made.lines ≡ told_report v w sides.now.part.names.items) }
+    ensures { (v w : List (List ℕ) → Verdict) → AreBothVerdicts sides.now v w →
+        IfOk result (λ made. made.lines ≡ told_report v w sides.now.part.names.items) }
 {
     let lines = lines_of(alloc, sides)?;
     Ok(Report { lines })
 }
 
-/// The first line of what `compare` tells of a new suite against an old one, or none. No two names are asked together where one
-/// is told of by itself. Both views were made at one and the same clause limit, and both with hold or both without.
+/// The first line of the report of `compare` on a new suite against an old one, or none. No two
+/// names are asked together if one has a line by itself. Both views were made at one and the same
+/// clause limit, and both with hold or both without.
 pub fn first_line(
     alloc: Global,
     old: &OldSide,
@@ -172,7 +193,10 @@ pub fn first_line(
 ) -> Result<Option<ReportLine>, AllocError>
     requires limit { new.now.limit ≡ old.now.view.now.limit }
     requires hold { new.now.kernel.hold ≡ old.now.view.now.kernel.hold }
-    ensures { let view = old.now.view.now in IfOk result (λ first. first ≡ first_told (report (verdict_in view.limit view.kernel.hold view.suite.home view.suite.packages old.now.budget) (verdict_in view.limit view.kernel.hold new.now.suite.home new.now.suite.packages old.now.budget)
+    ensures { let view = old.now.view.now in
+        IfOk result (λ first. first ≡ first_told (report (verdict_in view.limit view.kernel.hold
+        view.suite.home view.suite.packages old.now.budget) (verdict_in view.limit view.kernel.hold
+        new.now.suite.home new.now.suite.packages old.now.budget)
         (names_of_both view.suite.packages new.now.suite.packages))) }
 {
     let made = new_side_of(alloc, old, new)?;
@@ -181,19 +205,21 @@ pub fn first_line(
     Ok(first?.line)
 }
 
-/// The first line of a comparison, or none, and what is known of pairs then.
+/// The first line of a comparison, or none, and the judged pairs for a later comparison.
 #[derive(Drop)]
 pub struct FirstLine {
     /// The line.
     pub line: Option<ReportLine>,
-    /// What is known of pairs, for a later comparison: what was given, where a name has a line by itself.
+    /// The judged pairs, for a later comparison. If a name has a line by itself, they are those
+    /// that were given.
     pub known: Option<KnownPairs>,
 }
 
-/// The first line of what `compare` tells of other packages against the suite of an old side, or none, by the kernel of these
-/// packages, and by the classes of the packages that bear each name of the old side. The kernel was made at the clause limit of the old view,
-/// and both with hold or both without. What is known of pairs from an earlier such comparison may be given; it saves searches, and
-/// changes no line.
+/// The first line of the report on other packages against the suite of an old side, or none. It
+/// goes by the kernel of these packages, and by the classes of the packages that bear each name of
+/// the old side. The kernel was made at the clause limit of the old view, and both with hold or
+/// both without. Pairs judged in an earlier such comparison may be given: they save searches, and
+/// change no line.
 pub fn first_line_by(
     alloc: Global,
     old: &OldSide,
@@ -204,9 +230,14 @@ pub fn first_line_by(
     requires fits { FitsKernel kernel.now classes.items }
     requires count { length classes.items ≡ length old.now.names }
     requires known { ForSome known AreKnownPairs }
-    ensures first { let view = old.now.view.now in (home : Home) (stanzas : List PackageFacts) → IsLentKernel kernel.now view.limit view.kernel.hold (suite_repository home stanzas)
+    ensures first { let view = old.now.view.now in (home : Home) (stanzas : List PackageFacts) →
+        IsLentKernel kernel.now view.limit view.kernel.hold (suite_repository home stanzas)
         → classes.items ≡ bearer_classes view.limit view.kernel.hold home stanzas old.now.names
-        → IfOk result (λ made. made.line ≡ first_told (report (verdict_in view.limit view.kernel.hold view.suite.home view.suite.packages old.now.budget) (verdict_in view.limit view.kernel.hold home stanzas old.now.budget) (names_of_both view.suite.packages stanzas))) }
+        → IfOk result (λ made. made.line ≡ first_told (report
+        (verdict_in view.limit view.kernel.hold
+        view.suite.home view.suite.packages old.now.budget)
+        (verdict_in view.limit view.kernel.hold home stanzas old.now.budget)
+        (names_of_both view.suite.packages stanzas))) }
     ensures known { IfOk result (λ made. ForSome made.known AreKnownPairs) }
 {
     let made = new_side_by(alloc, old, kernel, classes)?;
@@ -222,7 +253,8 @@ fn first_beside(
     known: Option<KnownPairs>,
 ) -> Result<FirstLine, AllocError>
     requires { ForSome known AreKnownPairs }
-    ensures first { (v w : List (List ℕ) → Verdict) → AreBothVerdicts sides.now v w → IfOk result (λ made. made.line ≡ first_told (told_report v w sides.now.part.names.items)) }
+    ensures first { (v w : List (List ℕ) → Verdict) → AreBothVerdicts sides.now v w →
+        IfOk result (λ made. made.line ≡ first_told (told_report v w sides.now.part.names.items)) }
     ensures known { IfOk result (λ made. ForSome made.known AreKnownPairs) }
 {
     let FirstLines { lines, known } = first_lines_of(alloc, sides, known)?;

@@ -6,8 +6,8 @@ use smallvec::SmallVec;
 use std::alloc::{AllocError, Global};
 use std::marker::Model;
 
-/// A list of numbers, as of the packages that bear a name. Most names have one package, and a copy of one or two numbers takes no
-/// memory of its own.
+/// A list of numbers, as of the packages that bear a name. Most names have one package, and a copy
+/// of one or two numbers takes no memory of its own.
 #[derive(Drop)]
 pub struct FewNumbers {
     numbers: SmallVec<u32, 2>,
@@ -24,7 +24,7 @@ impl Model for FewNumbers {
 }
 
 impl FewNumbers {
-    /// A copy of the list; it fails only where no memory is found.
+    /// A copy of the list.
     pub fn copy(alloc: Global, numbers: &[u32]) -> Result<FewNumbers, AllocError>
         ensures { IfOk result (λ few. few ≡ numbers.now) }
     {
@@ -32,7 +32,7 @@ impl FewNumbers {
         Ok(FewNumbers { numbers })
     }
 
-    /// The list of a vector's numbers; it takes no memory.
+    /// The list of a vector's numbers.
     pub(crate) fn of(numbers: Vec<u32>) -> FewNumbers
         ensures { result ≡ numbers.items }
     {
@@ -41,7 +41,7 @@ impl FewNumbers {
         }
     }
 
-    /// The list of one number; it takes no memory.
+    /// The list of one number.
     pub(crate) fn one(alloc: Global, number: u32) -> FewNumbers
         ensures { result ≡ number ∷ [] }
     {

@@ -1,7 +1,8 @@
-//! The names of which something is told beside a name.
+//! For a name: the names that share a line with it.
 //!
-//! A joint is a pair of kinds, old and new, of some name. A partner is a name of which a line is made beside it. A bad kind
-//! does not go together with another one, or is not known to.
+//! A name has an old kind and a new kind: that pair is its joint. Its partners are the names that
+//! share a line with it. A bad kind is one that does not go together with another one, or is not
+//! known to.
 ghost use Rattle.std.specs.{Prelude.{◌≡◌, ◌<◌, ◌++◌, ℕ, IfOk, OnOk, is_some, length, slice_index_or}, List.{flat_map}};
 ghost use Rattle.listed.specs.Lists.{In};
 ghost use Rattle.row_book.specs.Book.{listed_for};
@@ -29,16 +30,16 @@ pub(crate) struct JointTable {
     pub(crate) by_new: Vec<PlaceList>,
 }
 
-/// The names of which something is told beside the names of a pair of kinds, both lists ascending.
+/// The names that share a line with the names of a joint, both lists ascending.
 #[derive(Drop)]
 pub(crate) struct Partners {
     /// All of them.
     pub(crate) told: PlaceList,
-    /// Those that are open beside them.
+    /// Those of them whose line is open.
     pub(crate) undecided: PlaceList,
 }
 
-/// Names as they are found: those of which something is told, and those that are open.
+/// Names as they are found: those that share a line, and those whose line is open.
 #[derive(Drop)]
 struct Found {
     told: Vec<usize>,
@@ -47,9 +48,11 @@ struct Found {
 
 /// The pairs of the kinds of each name in the old and in the new suite.
 pub(crate) fn joint_table(alloc: Global, sides: &NewSide) -> Result<JointTable, AllocError>
-    ensures joined { IfOk result (λ table. AreJoined sides.now.part.of.items sides.now.side.of.items table.joints.old.items table.joints.new.items table.joints.of.items) }
+    ensures joined { IfOk result (λ table. AreJoined sides.now.part.of.items sides.now.side.of.items
+        table.joints.old.items table.joints.new.items table.joints.of.items) }
     ensures fits { IfOk result IsJointTable }
-    ensures count { IfOk result (λ table. length table.by_new.items ≡ length sides.now.side.judge.kinds.items) }
+    ensures count { IfOk result (λ table. length table.by_new.items
+        ≡ length sides.now.side.judge.kinds.items) }
 {
     let joints = joints_of(alloc, &sides.part.of, &sides.side.of)?;
     let members = places_by(alloc, joints.new.len(), &joints.of)?;
@@ -93,8 +96,8 @@ fn joints_with(table: &JointTable, kind: usize) -> &[usize]
     places_at(&table.by_new, kind)
 }
 
-/// What is told of two kinds, by the verdict on them together in the new suite: the old suite is asked only where that is
-/// no.
+/// The finding on two kinds, by the verdict on them together in the new suite. The old suite is
+/// asked only if that is no.
 fn finding_with(
     alloc: Global,
     old: &Judge,
@@ -116,10 +119,12 @@ fn finding_with(
     }
 }
 
-/// Puts the names behind the others, where something is told.
+/// Appends the names, if there is a finding.
 fn add_names(names: &[usize], finding: Option<Finding>, found: &mut Found) -> Result<(), AllocError>
-    ensures told { OnOk result (found.new.told.items ≡ found.old.told.items ++ picked is_some finding names.now) }
-    ensures undecided { OnOk result (found.new.undecided.items ≡ found.old.undecided.items ++ picked is_open finding names.now) }
+    ensures told { OnOk result (found.new.told.items
+        ≡ found.old.told.items ++ picked is_some finding names.now) }
+    ensures undecided { OnOk result (found.new.undecided.items
+        ≡ found.old.undecided.items ++ picked is_open finding names.now) }
 {
     match finding {
         None => Ok(()),
@@ -135,7 +140,7 @@ fn add_names(names: &[usize], finding: Option<Finding>, found: &mut Found) -> Re
     }
 }
 
-/// Puts the names of pairs of kinds that have one kind in the new suite behind the others, where something is told.
+/// Appends the names of all joints with this new kind, if there is a finding.
 fn add_joints(
     alloc: Global,
     old: &Judge,
@@ -146,11 +151,15 @@ fn add_joints(
     found: &mut Found,
 ) -> Result<(), AllocError>
     requires first { first < length old.now.kinds.items }
-    requires olds { (a : ℕ) → a < length table.now.joints.old.items → old_kind table.now a < length old.now.kinds.items }
+    requires olds { (a : ℕ) → a < length table.now.joints.old.items →
+        old_kind table.now a < length old.now.kinds.items }
     requires fits { IsJointTable table.now }
-    requires joints { (i : ℕ) → i < length joints.now → slice_index_or joints.now i 0 < length table.now.joints.old.items }
-    ensures told { OnOk result (found.new.told.items ≡ found.old.told.items ++ flat_map (beside is_some old.now table.now first verdict) joints.now) }
-    ensures undecided { OnOk result (found.new.undecided.items ≡ found.old.undecided.items ++ flat_map (beside is_open old.now table.now first verdict) joints.now) }
+    requires joints { (i : ℕ) → i < length joints.now →
+        slice_index_or joints.now i 0 < length table.now.joints.old.items }
+    ensures told { OnOk result (found.new.told.items ≡ found.old.told.items
+        ++ flat_map (beside is_some old.now table.now first verdict) joints.now) }
+    ensures undecided { OnOk result (found.new.undecided.items ≡ found.old.undecided.items
+        ++ flat_map (beside is_open old.now table.now first verdict) joints.now) }
 {
     for joint in joints {
         let second = old_kind(table, *joint);
@@ -161,7 +170,7 @@ fn add_joints(
     Ok(())
 }
 
-/// Puts the names of which something is told behind the others, by the bad kinds.
+/// Appends the names that share a line, by the bad kinds.
 fn add_bad(
     alloc: Global,
     old: &Judge,
@@ -171,11 +180,14 @@ fn add_bad(
     found: &mut Found,
 ) -> Result<(), AllocError>
     requires first { first < length old.now.kinds.items }
-    requires olds { (a : ℕ) → a < length table.now.joints.old.items → old_kind table.now a < length old.now.kinds.items }
+    requires olds { (a : ℕ) → a < length table.now.joints.old.items →
+        old_kind table.now a < length old.now.kinds.items }
     requires fits { IsJointTable table.now }
     requires bad { (b : Bad) → In b bad.now → b.kind < length table.now.by_new.items }
-    ensures told { OnOk result (found.new.told.items ≡ found.old.told.items ++ flat_map (beside_all is_some old.now table.now first) bad.now) }
-    ensures undecided { OnOk result (found.new.undecided.items ≡ found.old.undecided.items ++ flat_map (beside_all is_open old.now table.now first) bad.now) }
+    ensures told { OnOk result (found.new.told.items
+        ≡ found.old.told.items ++ flat_map (beside_all is_some old.now table.now first) bad.now) }
+    ensures undecided { OnOk result (found.new.undecided.items ≡ found.old.undecided.items
+        ++ flat_map (beside_all is_open old.now table.now first) bad.now) }
 {
     for entry in bad {
         let joints = joints_with(table, entry.kind);
@@ -184,7 +196,7 @@ fn add_bad(
     Ok(())
 }
 
-/// The names of which something is told beside those of a pair of kinds, by the bad kinds.
+/// The names that share a line with those of a joint, by the bad kinds.
 pub(crate) fn partners_of(
     alloc: Global,
     old: &Judge,
@@ -193,7 +205,8 @@ pub(crate) fn partners_of(
     first: usize,
 ) -> Result<Partners, AllocError>
     requires first { first < length old.now.kinds.items }
-    requires olds { (a : ℕ) → a < length table.now.joints.old.items → old_kind table.now a < length old.now.kinds.items }
+    requires olds { (a : ℕ) → a < length table.now.joints.old.items →
+        old_kind table.now a < length old.now.kinds.items }
     requires fits { IsJointTable table.now }
     requires bad { (b : Bad) → In b bad.now → b.kind < length table.now.by_new.items }
     ensures { IfOk result (ArePartners old.now table.now first bad.now) }

@@ -11,18 +11,24 @@ use listed::true_numbers;
 use row_book::Needs;
 use std::alloc::{AllocError, Global};
 
-/// The packages that are installed where these classes are found: a healthy set that has a wanted package for each goal,
-/// without what no need asks for, ascending.
+/// The packages that are installed if these classes are found: a healthy set that has a wanted
+/// package for each goal, without what no need asks for, ascending.
 pub(crate) fn install(
     alloc: Global,
     view: &SuiteView,
     wanted: &Needs,
     chosen: &[bool],
 ) -> Result<NumList, AllocError>
-    requires healthy { Healthy (repository_of view.now.pool view.now.kernel.book) (flag chosen.now) }
+    requires healthy { Healthy
+        (repository_of view.now.pool view.now.kernel.book) (flag chosen.now) }
     requires fit { NeedsFit (length view.now.book.rows) wanted.now }
-    requires hits { HitsAll (lift_of (trail_meaning view.now.pool view.now.kernel.trail.steps) (flag chosen.now)) wanted.now }
-    ensures { IfOk result (λ install. install ≡ filter (trim_of (repository_of view.now.pool view.now.book) wanted.now (lift_of (trail_meaning view.now.pool view.now.kernel.trail.steps) (flag chosen.now))) (range_with_len 0 (length view.now.book.rows))) }
+    requires hits { HitsAll
+        (lift_of (trail_meaning view.now.pool view.now.kernel.trail.steps) (flag chosen.now))
+        wanted.now }
+    ensures { IfOk result (λ install. install ≡ filter
+        (trim_of (repository_of view.now.pool view.now.book) wanted.now
+        (lift_of (trail_meaning view.now.pool view.now.kernel.trail.steps) (flag chosen.now)))
+        (range_with_len 0 (length view.now.book.rows))) }
 {
     let lifted = lift(
         alloc,

@@ -7,7 +7,8 @@ use clause_pool::NumList;
 use clause_solver::BookSolver;
 use row_book::LentBook;
 
-/// What verdicts on kinds are asked of: the book of a kernel with its solver, the kinds, and the budget of each search.
+/// What verdicts on kinds are asked of: the book of a kernel with its solver, the kinds, and the
+/// budget of each search.
 #[derive(Drop)]
 pub(crate) struct Judge<'a> {
     /// The book of the kernel.
@@ -18,7 +19,8 @@ pub(crate) struct Judge<'a> {
     pub(crate) kinds: Vec<NumList>,
     /// The most failed leaves of a search.
     pub(crate) budget: u64,
-    ghost of_kernel: { solver ≡ repository_in kernel } by { Same-prop solver (repository_in kernel) },
+    ghost of_kernel: { solver ≡ repository_in kernel } by { Same-prop solver
+        (repository_in kernel) },
     ghost needs: { AreNeeds kinds.items } by { AreNeeds-prop kinds.items },
     ghost fit: { NeedsFit (length kernel.book.now.rows) kinds.items },
     ghost allowed: { IsBudget budget },

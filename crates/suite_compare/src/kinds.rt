@@ -19,7 +19,8 @@ pub(crate) struct Kinds {
     pub(crate) of: Vec<usize>,
 }
 
-/// Pairs of kinds in the old and in the new suite, each once, and for each name the number of its own.
+/// Pairs of kinds in the old and in the new suite, each once, and for each name the number of its
+/// own.
 #[derive(Drop)]
 pub(crate) struct Joints {
     /// The kind of each pair in the old suite.
@@ -42,10 +43,11 @@ pub(crate) struct Numbering {
 }
 
 impl Numbering {
-    /// No items yet; it takes no memory.
+    /// No items yet.
     #[tactic(auto, using(crate::proofs::Numbered::numbered_none))]
     fn new(alloc: Global) -> Numbering
-        ensures { (keys : ℕ → List ℕ) → AreNumbered keys 0 result.seen result.firsts.items result.of.items }
+        ensures { (keys : ℕ → List ℕ) →
+            AreNumbered keys 0 result.seen result.firsts.items result.of.items }
     {
         Numbering {
             seen: KeyTable::new(alloc),
@@ -56,7 +58,9 @@ impl Numbering {
 
     /// One more item with its key.
     fn put(&mut self, key: &[u64]) -> Result<(), AllocError>
-        ensures { (keys : ℕ → List ℕ) (n : ℕ) → keys n ≡ key.now → AreNumbered keys n self.old.seen self.old.firsts.items self.old.of.items → OnOk result (AreNumbered keys (n + 1) self.new.seen self.new.firsts.items self.new.of.items) }
+        ensures { (keys : ℕ → List ℕ) (n : ℕ) → keys n ≡ key.now →
+            AreNumbered keys n self.old.seen self.old.firsts.items self.old.of.items → OnOk result
+            (AreNumbered keys (n + 1) self.new.seen self.new.firsts.items self.new.of.items) }
     {
         if let Some(number) = self.seen.find(key) {
             self.of.push(number)?;
@@ -69,7 +73,7 @@ impl Numbering {
     }
 }
 
-/// Puts the numbers of a list into the key, in the place of what it had.
+/// Replaces the key by the numbers of a list.
 fn put_key(key: &mut Vec<u64>, list: &[u32]) -> Result<(), AllocError>
     ensures { OnOk result (key.new.items ≡ list.now) }
 {
@@ -137,7 +141,8 @@ pub(crate) fn joints_of(
     new_of: &[usize],
 ) -> Result<Joints, AllocError>
     requires { length old_of.now ≡ length new_of.now }
-    ensures { IfOk result (λ joints. AreJoined old_of.now new_of.now joints.old.items joints.new.items joints.of.items) }
+    ensures { IfOk result (λ joints.
+        AreJoined old_of.now new_of.now joints.old.items joints.new.items joints.of.items) }
 {
     let mut numbering = Numbering::new(alloc);
     for place in 0..old_of.len() {

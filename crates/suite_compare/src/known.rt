@@ -1,5 +1,5 @@
-//! What is known of pairs of kinds from an earlier comparison. Many mixes of two indexes have one and the same kernel, and the same kinds in it, so
-//! that their pairs need not be searched again.
+//! Pairs of kinds judged in an earlier comparison. Many mixes of two indexes have one and the same
+//! kernel, and the same kinds in it, so that their pairs need not be searched again.
 ghost use Rattle.std.specs.{Prelude.{◌≡◌, ◌<◌, IfOk}, Bool.{OnTrue}, Option.{ForSome}};
 ghost use Rattle.row_book.specs.Book.{Sound};
 ghost use Rattle.suite_compare.specs.{Bad.{AreAllBad, AreSingles}, Known.{AreKnownPairs, IsAskedAlike}};
@@ -12,7 +12,8 @@ use listed::Listed;
 use row_book::{Book, are_same_lists, is_same_book};
 use std::alloc::{AllocError, Global};
 
-/// A kernel and its kinds, and for each kind those that do not go together with it, or are not known to, within a budget.
+/// A kernel and its kinds, and for each kind those that do not go together with it, or are not
+/// known to, within a budget.
 #[derive(Drop)]
 pub struct KnownPairs {
     // The pool of the book's rows.
@@ -27,8 +28,8 @@ pub struct KnownPairs {
     pub(crate) lists: Vec<BadList>,
 }
 
-/// The kinds that are bad with each kind of a judge, by what is known where it was asked of the same kinds of the same kernel, and else by
-/// searches.
+/// The kinds that are bad with each kind of a judge. They are reused if kernel, kinds and budget
+/// are the same; otherwise they are searched.
 pub(crate) fn pairs_of(
     alloc: Global,
     judge: &Judge,
@@ -49,7 +50,7 @@ pub(crate) fn pairs_of(
     kept_pairs(alloc, judge, lists)
 }
 
-// What is found of a judge's pairs, to be kept.
+// The judged pairs of a judge, to be kept.
 fn kept_pairs(alloc: Global, judge: &Judge, lists: Vec<BadList>) -> Result<KnownPairs, AllocError>
     requires { AreAllBad judge.now lists.items }
     ensures known { IfOk result AreKnownPairs }

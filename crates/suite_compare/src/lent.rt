@@ -7,7 +7,8 @@ use row_book::LentBook;
 
 /// The kernel of a view.
 pub(crate) fn kernel_of(view: &SuiteView) -> LentBook<'_>
-    ensures { IsLentKernel result view.now.limit view.now.kernel.hold (suite_repository view.now.suite.home view.now.suite.packages) }
+    ensures { IsLentKernel result view.now.limit view.now.kernel.hold
+        (suite_repository view.now.suite.home view.now.suite.packages) }
 {
     LentBook {
         pool: &view.pool,

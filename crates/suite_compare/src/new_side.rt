@@ -14,9 +14,12 @@ pub(crate) struct NewSide<'s, 'o, 'n> {
     pub(crate) part: Part<'o>,
     /// The side of the new suite, of these names alone.
     pub(crate) side: Side<'n>,
-    ghost long: { length side.of.items ≡ length part.names.items } by { number-set (length side.of.items) (length part.names.items) },
-    ghost old_long: { length part.of.items ≡ length part.names.items } by { number-set (length part.of.items) (length part.names.items) },
-    ghost old_within: { (i : ℕ) → i < length part.names.items → slice_index_or part.of.items i 0 < length old.now.judge.kinds.items },
+    ghost long: { length side.of.items ≡ length part.names.items } by { number-set
+        (length side.of.items) (length part.names.items) },
+    ghost old_long: { length part.of.items ≡ length part.names.items } by { number-set
+        (length part.of.items) (length part.names.items) },
+    ghost old_within: { (i : ℕ) → i < length part.names.items →
+        slice_index_or part.of.items i 0 < length old.now.judge.kinds.items },
 }
 
 /// Those names of a side that another suite has.

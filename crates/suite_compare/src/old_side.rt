@@ -10,7 +10,8 @@ use crate::view::SuiteView;
 use repo_model::{LentName, LentNames};
 use std::alloc::{AllocError, Global};
 
-/// An old view in comparisons with new ones: its names, ascending, and the side that it is in all of them.
+/// An old view in comparisons with new ones: its names, ascending, and the side that it is in all
+/// of them.
 #[derive(Drop)]
 pub struct OldSide<'a> {
     /// The view.
@@ -21,9 +22,14 @@ pub struct OldSide<'a> {
     pub(crate) names: LentNames<'a>,
     /// The side of its suite, the same in all comparisons.
     pub(crate) side: Side<'a>,
-    ghost names_are: { names ≡ names_in view.now.suite.packages } by { texts-set names (names_in view.now.suite.packages) },
-    ghost long: { length side.of.items ≡ length names } by { number-set (length side.of.items) (length names) },
-    ghost was: { AreVerdicts side side.of.items names (named_verdict view.now.limit view.now.kernel.hold view.now.suite.home view.now.suite.packages budget) } by { AreVerdicts-prop side side.of.items names (named_verdict view.now.limit view.now.kernel.hold view.now.suite.home view.now.suite.packages budget) },
+    ghost names_are: { names ≡ names_in view.now.suite.packages } by { texts-set names
+        (names_in view.now.suite.packages) },
+    ghost long: { length side.of.items ≡ length names } by { number-set
+        (length side.of.items) (length names) },
+    ghost was: { AreVerdicts side side.of.items names (named_verdict view.now.limit
+        view.now.kernel.hold view.now.suite.home view.now.suite.packages
+        budget) } by { AreVerdicts-prop side side.of.items names (named_verdict view.now.limit
+            view.now.kernel.hold view.now.suite.home view.now.suite.packages budget) },
     ghost allowed: { IsBudget budget },
 }
 
@@ -31,7 +37,8 @@ impl<'a> OldSide<'a> {
     ghost use Rattle.std.specs.Prelude.{◌≡◌, IfOk};
     ghost use Rattle.clause_solver.specs.Outcomes.{IsBudget};
 
-    /// The side of an old view, for comparisons within a budget of failed leaves a search, from 1 to 1,000,000.
+    /// The side of an old view, for comparisons within a budget of failed leaves a search, from 1
+    /// to 1,000,000.
     pub fn new(alloc: Global, view: &'a SuiteView, budget: u64) -> Result<OldSide<'a>, AllocError>
         requires { IsBudget budget }
         ensures view { IfOk result (λ made. made.view.now ≡ view.now) }

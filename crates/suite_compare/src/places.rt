@@ -1,4 +1,4 @@
-//! Places under keys, ascending lists of them, and what stands at a place.
+//! Places under keys, ascending lists of them, and what is at a place.
 ghost use Rattle.std.specs.{Prelude.{◌≡◌, ◌<◌, ◌↔◌, [], ℕ, IfOk, OnOk, length, slice_index_or}, List.Sorted.{IsNonDecreasing}};
 ghost use Rattle.listed.specs.Lists.{In, has, Ascending};
 ghost use Rattle.row_book.specs.Book.{listed_for};
@@ -14,7 +14,7 @@ use std::alloc::{AllocError, Global};
 /// Places in a list.
 pub(crate) type PlaceList = Listed<usize>;
 
-/// Puts a place behind the others under a key.
+/// Appends a place under a key.
 pub(crate) fn enter(table: &mut [PlaceList], key: usize, place: usize) -> Result<(), AllocError>
     requires { key < length table.old }
     ensures { OnOk result (IsEntered table.old table.new key place) }
@@ -23,9 +23,10 @@ pub(crate) fn enter(table: &mut [PlaceList], key: usize, place: usize) -> Result
     Ok(())
 }
 
-/// Enters each place under the key that stands there.
+/// Appends each place of the list under the key that is there.
 fn enter_all(table: &mut [PlaceList], keys: &[usize]) -> Result<(), AllocError>
-    requires within { (i : ℕ) → i < length keys.now → slice_index_or keys.now i 0 < length table.old }
+    requires within { (i : ℕ) → i < length keys.now →
+        slice_index_or keys.now i 0 < length table.old }
     requires empty { (k : ℕ) → listed_for table.old k ≡ [] }
     ensures { OnOk result (ArePlaces keys.now table.new) }
 {
@@ -35,7 +36,7 @@ fn enter_all(table: &mut [PlaceList], keys: &[usize]) -> Result<(), AllocError>
     Ok(())
 }
 
-/// For each of so many keys the places of the list at which it stands.
+/// For each key below `count` the places of the list at which it is.
 pub(crate) fn places_by(
     alloc: Global,
     count: usize,
@@ -50,7 +51,7 @@ pub(crate) fn places_by(
     Ok(table)
 }
 
-/// Puts the numbers in their order, each once.
+/// Sorts the numbers, and keeps each once.
 pub(crate) fn sort_once(numbers: &mut Vec<usize>)
     ensures ascending { Ascending numbers.new.items }
     ensures same { (n : ℕ) → In n numbers.new.items ↔ In n numbers.old.items }

@@ -1,4 +1,4 @@
-//! What a comparison tells.
+//! What a comparison finds.
 ghost use Rattle.std.specs.Prelude.{◌≡◌, IfOk};
 ghost use Rattle.suite_compare.specs.Report.{finding, first_told, is_yes};
 
@@ -7,12 +7,12 @@ use deb_version::Bytes;
 use listed::Listed;
 use std::alloc::{AllocError, Global};
 
-/// What is told of a name, or of two names together.
+/// What is found of a name, or of two names together.
 #[derive(Clone, Copy, Debug, PartialEq, Eq)]
 pub enum Finding {
     /// It was installable in the old suite, and is not in the new one.
     Broken,
-    /// A search that would tell spent its budget.
+    /// A search that was needed spent its budget.
     Open,
 }
 
@@ -55,7 +55,7 @@ pub struct Report {
     pub lines: LineList,
 }
 
-/// What is told where these are the verdicts in the old and in the new suite; it takes no memory.
+/// The finding, by the verdicts in the old and in the new suite.
 pub(crate) fn finding_of(old: Verdict, new: Verdict) -> Option<Finding>
     ensures { result ≡ finding old new }
 {
@@ -70,7 +70,7 @@ pub(crate) fn finding_of(old: Verdict, new: Verdict) -> Option<Finding>
     }
 }
 
-/// Whether the verdict is yes; it takes no memory.
+/// Whether the verdict is yes.
 pub(crate) fn is_yes(verdict: Verdict) -> bool
     ensures { result ≡ is_yes verdict }
 {

@@ -5,7 +5,8 @@ ghost use Rattle.suite_compare.specs.{Bad.{AreSingles}, Props.{AreSingles-prop}}
 use crate::judge::Judge;
 use clause_solver::Verdict;
 
-/// One suite of a comparison: its judge, the kind of each name, and the verdict on each kind by itself.
+/// One suite of a comparison: its judge, the kind of each name, and the verdict on each kind by
+/// itself.
 #[derive(Drop)]
 pub(crate) struct Side<'a> {
     /// The judge.
@@ -14,6 +15,7 @@ pub(crate) struct Side<'a> {
     pub(crate) of: Vec<usize>,
     /// The verdict on each kind by itself.
     pub(crate) singles: Vec<Verdict>,
-    ghost within: { (i : ℕ) → i < length of.items → slice_index_or of.items i 0 < length judge.kinds.items },
+    ghost within: { (i : ℕ) → i < length of.items →
+        slice_index_or of.items i 0 < length judge.kinds.items },
     ghost told: { AreSingles judge singles.items } by { AreSingles-prop judge singles.items },
 }

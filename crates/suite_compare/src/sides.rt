@@ -1,4 +1,5 @@
-//! The two sides of a comparison: what is known of both suites before any two names are asked together.
+//! The two sides of a comparison: what is known of both suites before any two names are asked
+//! together.
 ghost use Rattle.std.specs.Prelude.{◌≡◌, ◌<◌, ℕ, List, true, IfOk, length, map, slice_index_or};
 ghost use Rattle.listed.specs.Lists.{In};
 ghost use Rattle.row_book.specs.{Book.{listed_for}, Lent.{repository_in}, Needs.{AreNeeds, NeedsFit}};
@@ -69,10 +70,13 @@ pub(crate) fn side_of<'a>(
     names: &[LentName],
     budget: u64,
 ) -> Result<Side<'a>, AllocError>
-    requires names { (name : List ℕ) → In name names.now → stands_in view.now.suite.packages name ≡ true }
+    requires names { (name : List ℕ) → In name names.now →
+        stands_in view.now.suite.packages name ≡ true }
     requires budget { IsBudget budget }
     ensures long { IfOk result (λ side. length side.of.items ≡ length names.now) }
-    ensures verdicts { IfOk result (λ side. AreVerdicts side side.of.items names.now (named_verdict view.now.limit view.now.kernel.hold view.now.suite.home view.now.suite.packages budget)) }
+    ensures verdicts { IfOk result (λ side. AreVerdicts side side.of.items names.now
+        (named_verdict view.now.limit view.now.kernel.hold
+        view.now.suite.home view.now.suite.packages budget)) }
 {
     let named = bearers_of(alloc, &view.suite, names)?;
     let classes = classes_of_each(alloc, view.kernel.class_of.as_slice(), &named)?;
@@ -82,17 +86,21 @@ pub(crate) fn side_of<'a>(
 
 /// Those of the names of an old side that are at these places, each with its kind.
 fn part_at<'a>(alloc: Global, old: &OldSide<'a>, places: &[usize]) -> Result<Part<'a>, AllocError>
-    requires { (i : ℕ) → i < length places.now → slice_index_or places.now i 0 < length old.now.names }
-    ensures names { IfOk result (λ part. part.names.items ≡ map (listed_for old.now.names) places.now) }
-    ensures kinds { IfOk result (λ part. part.of.items ≡ map (λ place. slice_index_or old.now.side.of.items place 0) places.now) }
+    requires { (i : ℕ) → i < length places.now →
+        slice_index_or places.now i 0 < length old.now.names }
+    ensures names { IfOk result (λ part. part.names.items
+        ≡ map (listed_for old.now.names) places.now) }
+    ensures kinds { IfOk result (λ part. part.of.items
+        ≡ map (λ place. slice_index_or old.now.side.of.items place 0) places.now) }
 {
     let names = names_at(alloc, old.names.as_slice(), places)?;
     let of = numbers_at(alloc, &old.side.of, places)?;
     Ok(Part { names, of })
 }
 
-/// The side of other packages in a comparison with an old view, by their kernel and by the classes of the packages that bear each name of
-/// the old side. The kernel was made at the clause limit of the old view, and both with hold or both without.
+/// The side of other packages in a comparison with an old view, by their kernel and by the classes
+/// of the packages that bear each name of the old side. The kernel was made at the clause limit of
+/// the old view, and both with hold or both without.
 pub(crate) fn new_side_by<'s, 'o, 'n>(
     alloc: Global,
     old: &'s OldSide<'o>,
@@ -101,8 +109,10 @@ pub(crate) fn new_side_by<'s, 'o, 'n>(
 ) -> Result<NewSide<'s, 'o, 'n>, AllocError>
     requires fits { FitsKernel kernel.now classes.items }
     requires count { length classes.items ≡ length old.now.names }
-    ensures { let view = old.now.view.now in (home : Home) (stanzas : List PackageFacts) → IsLentKernel kernel.now view.limit view.kernel.hold (suite_repository home stanzas)
-        → classes.items ≡ bearer_classes view.limit view.kernel.hold home stanzas old.now.names → IfOk result (IsNewSide old.now home stanzas) }
+    ensures { let view = old.now.view.now in (home : Home) (stanzas : List PackageFacts) →
+        IsLentKernel kernel.now view.limit view.kernel.hold (suite_repository home stanzas)
+        → classes.items ≡ bearer_classes view.limit view.kernel.hold home stanzas old.now.names →
+        IfOk result (IsNewSide old.now home stanzas) }
 {
     let places = filled_places(alloc, &classes)?;
     let part = part_at(alloc, old, &places)?;
@@ -115,8 +125,8 @@ pub(crate) fn new_side_by<'s, 'o, 'n>(
     })
 }
 
-/// The side of a new view in a comparison with an old one. Both views were made at one and the same clause limit, and both with
-/// hold or both without.
+/// The side of a new view in a comparison with an old one. Both views were made at one and the same
+/// clause limit, and both with hold or both without.
 pub(crate) fn new_side_of<'s, 'o, 'n>(
     alloc: Global,
     old: &'s OldSide<'o>,

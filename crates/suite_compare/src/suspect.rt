@@ -14,7 +14,7 @@ use std::alloc::{AllocError, Global};
 /// The first choices of kinds, with tables to find those that may not go together.
 #[derive(Drop)]
 pub(crate) struct Choices {
-    /// The first choice of each kind, empty where it has none.
+    /// The first choice of each kind; empty if it has none.
     of: Vec<NumList>,
     /// For each class the kinds whose first choice has it.
     holders: Vec<PlaceList>,
@@ -25,14 +25,15 @@ pub(crate) struct Choices {
 /// The most members that a first choice has.
 const MOST_MEMBERS: usize = 4096;
 
-/// The most members that it has where there are many already: those of real suites have two or three.
+/// The most members that a first choice has once there are many in all. Those of real suites have
+/// two or three.
 const FEW_MEMBERS: usize = 64;
 
-/// How many members of first choices are many.
+/// From this number of members in all there are many.
 const MANY_IN_ALL: usize = 4000000;
 
-/// The most members up to which the next first choice is followed, so that a hostile index makes no table as large as the
-/// square of its size.
+/// The most members up to which the next first choice is followed. It is bounded, so that a hostile
+/// index makes no table as large as the square of its size.
 fn most_members(in_all: usize) -> usize {
     if in_all < MANY_IN_ALL {
         MOST_MEMBERS
@@ -48,8 +49,10 @@ fn choices_of(
     kinds: &[NumList],
 ) -> Result<Vec<NumList>, AllocError>
     requires { NeedsFit (length kernel.now.book.now.rows) kinds.now }
-    ensures chosen { IfOk result (λ choices. AreAllChosen (repository_in kernel.now) kinds.now (length kinds.now) choices.items) }
-    ensures below { IfOk result (λ choices. NeedsFit (length kernel.now.book.now.rows) choices.items) }
+    ensures chosen { IfOk result (λ choices.
+        AreAllChosen (repository_in kernel.now) kinds.now (length kinds.now) choices.items) }
+    ensures below { IfOk result (λ choices.
+        NeedsFit (length kernel.now.book.now.rows) choices.items) }
 {
     let mut chosen = ClassSet::new(alloc, kernel.book.size())?;
     let mut choices = Vec::new(alloc);
@@ -65,7 +68,8 @@ fn choices_of(
 
 /// Enters a kind under each of the classes.
 fn enter_each(table: &mut [PlaceList], classes: &[u32], kind: usize) -> Result<(), AllocError>
-    requires { (i : ℕ) → i < length classes.now → slice_index_or classes.now i 0 < length table.old }
+    requires { (i : ℕ) → i < length classes.now →
+        slice_index_or classes.now i 0 < length table.old }
     ensures { OnOk result (AreHeld table.old table.new classes.now kind) }
 {
     for class in classes {
@@ -88,7 +92,8 @@ fn enter_choices(table: &mut [PlaceList], choices: &[NumList]) -> Result<(), All
 
 /// The kinds without a first choice.
 fn without_choice(alloc: Global, choices: &[NumList]) -> Result<Vec<usize>, AllocError>
-    ensures { IfOk result (λ without. without.items ≡ without_choice choices.now (length choices.now)) }
+    ensures { IfOk result (λ without. without.items
+        ≡ without_choice choices.now (length choices.now)) }
 {
     let mut without = Vec::new(alloc);
     for (kind, choice) in choices.iter().enumerate() {
@@ -130,7 +135,8 @@ impl Choices {
     ) -> Result<Vec<usize>, AllocError>
         requires choices { AreChoices (repository_in kernel.now) kinds.now self.now }
         requires kind { kind < length kinds.now }
-        ensures { IfOk result (λ suspects. AreSuspects kernel.now.book.now.conflicts self.now.of.items kind suspects.items) }
+        ensures { IfOk result (λ suspects.
+            AreSuspects kernel.now.book.now.conflicts self.now.of.items kind suspects.items) }
     {
         let choices = self.of.as_slice();
         let choice = classes_at(choices, kind);
@@ -150,7 +156,7 @@ impl Choices {
     }
 }
 
-/// So many places, from 0 on.
+/// The places from 0 on.
 fn all_places(alloc: Global, count: usize) -> Result<Vec<usize>, AllocError>
     ensures { IfOk result (λ made. made.items ≡ range_with_len 0 count) }
 {
@@ -161,14 +167,16 @@ fn all_places(alloc: Global, count: usize) -> Result<Vec<usize>, AllocError>
     Ok(made)
 }
 
-/// Puts the kinds whose first choice has one of the classes behind the others.
+/// Appends the kinds whose first choice has one of the classes.
 fn add_holders(
     classes: &[u32],
     holders: &[PlaceList],
     found: &mut Vec<usize>,
 ) -> Result<(), AllocError>
-    requires { (i : ℕ) → i < length classes.now → slice_index_or classes.now i 0 < length holders.now }
-    ensures { OnOk result (found.new.items ≡ found.old.items ++ flat_map (listed_for holders.now) classes.now) }
+    requires { (i : ℕ) → i < length classes.now →
+        slice_index_or classes.now i 0 < length holders.now }
+    ensures { OnOk result (found.new.items
+        ≡ found.old.items ++ flat_map (listed_for holders.now) classes.now) }
 {
     for class in classes {
         found.extend_from_slice(places_at(holders, *class as usize))?;

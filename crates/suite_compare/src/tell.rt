@@ -20,7 +20,7 @@ fn partners_at(table: &[Partners], joint: usize) -> &Partners
     &table[joint]
 }
 
-/// Puts the line of a single name behind the others, where something is told of it.
+/// Appends the line of a name, if there is a finding.
 pub(crate) fn push_single(
     alloc: Global,
     name: &[u8],
@@ -44,7 +44,7 @@ pub(crate) fn push_single(
     }
 }
 
-/// Puts the line of two names behind the others.
+/// Appends the line of two names.
 fn push_pair(
     alloc: Global,
     first: &[u8],
@@ -68,7 +68,7 @@ fn push_pair(
     }
 }
 
-/// What is told of a partner.
+/// The finding on a partner.
 fn finding_beside(partners: &Partners, other: usize) -> Finding
     requires { Ascending partners.now.undecided }
     ensures { result ≡ found_beside partners.now other }
@@ -80,7 +80,7 @@ fn finding_beside(partners: &Partners, other: usize) -> Finding
     }
 }
 
-/// Puts the lines of a name with its partners behind it behind the others.
+/// Appends the lines of a name with its partners that come later.
 fn tell_later(
     alloc: Global,
     names: &[LentName],
@@ -91,7 +91,8 @@ fn tell_later(
     requires place { place < length names.now }
     requires within { (j : ℕ) → In j partners.now.told → j < length names.now }
     requires ascending { Ascending partners.now.undecided }
-    ensures { OnOk result (lines.new ≡ lines.old ++ flat_map (told_pair names.now partners.now place) (filter (ltb place) partners.now.told)) }
+    ensures { OnOk result (lines.new ≡ lines.old ++ flat_map
+        (told_pair names.now partners.now place) (filter (ltb place) partners.now.told)) }
 {
     let others = partners.told.as_slice();
     for other in others {
@@ -106,7 +107,7 @@ fn tell_later(
     Ok(())
 }
 
-/// Puts the lines of the pairs of names, each of which is found by itself, behind the others.
+/// Appends the lines of the pairs of names that are each found by itself.
 pub(crate) fn tell_pairs(
     alloc: Global,
     sides: &NewSide,
@@ -115,10 +116,15 @@ pub(crate) fn tell_pairs(
     lines: &mut LineList,
 ) -> Result<(), AllocError>
     requires joints { length table.now.joints.of.items ≡ length sides.now.part.names.items }
-    requires within { (i : ℕ) → i < length sides.now.part.names.items → slice_index_or table.now.joints.of.items i 0 < length partners.now }
-    requires told { (a j : ℕ) → a < length partners.now → In j (partners_at partners.now a).told → j < length sides.now.part.names.items }
-    requires undecided { (a : ℕ) → a < length partners.now → Ascending (partners_at partners.now a).undecided }
-    ensures { let names = sides.now.part.names.items in OnOk result (lines.new ≡ lines.old ++ flat_map (told_after names table.now.joints.of.items partners.now) (filter (goes_alone sides.now.side) (range_with_len 0 (length names)))) }
+    requires within { (i : ℕ) → i < length sides.now.part.names.items →
+        slice_index_or table.now.joints.of.items i 0 < length partners.now }
+    requires told { (a j : ℕ) → a < length partners.now → In j (partners_at partners.now a).told →
+        j < length sides.now.part.names.items }
+    requires undecided { (a : ℕ) → a < length partners.now →
+        Ascending (partners_at partners.now a).undecided }
+    ensures { let names = sides.now.part.names.items in OnOk result (lines.new
+        ≡ lines.old ++ flat_map (told_after names table.now.joints.of.items partners.now)
+        (filter (goes_alone sides.now.side) (range_with_len 0 (length names)))) }
 {
     let names = sides.part.names.as_slice();
     for place in 0..names.len() {

@@ -1,7 +1,7 @@
 //! Verdicts on kinds.
 //!
-//! A search of two kinds is made once where one of them is a single class: such a goal is met at the root, so both orders have
-//! one tree.
+//! A search of two kinds is made only once if one of them is a single class. Such a goal is met at
+//! the root, so both orders have one tree.
 ghost use Rattle.std.specs.{Prelude.{◌≡◌, ◌<◌, ◌==◌, ◌⊎◌, ◌∷◌, [], ℕ, true, IfOk, length, slice_index_or}, List.{find, flat_map}, Option.{option_copied}};
 ghost use Rattle.row_book.specs.{Book.{listed_for}, Needs.{IsNeed, NeedsFit}};
 ghost use Rattle.suite_compare.specs.Kinds.{alone_in, kernel_in, kernel_verdict, together_in, AreRivals, IsOneClass};
@@ -34,7 +34,8 @@ fn classes_of<'a>(judge: &'a Judge, kind: usize) -> &'a [u32]
     requires { kind < length judge.now.kinds.items }
     ensures is { result.now ≡ listed_for judge.now.kinds.items kind }
     ensures need { IsNeed result.now }
-    ensures below { (i : ℕ) → i < length result.now → slice_index_or result.now i 0 < length judge.now.kernel.book.now.rows }
+    ensures below { (i : ℕ) → i < length result.now →
+        slice_index_or result.now i 0 < length judge.now.kernel.book.now.rows }
 {
     classes_at(&judge.kinds, kind)
 }
@@ -42,7 +43,8 @@ fn classes_of<'a>(judge: &'a Judge, kind: usize) -> &'a [u32]
 /// The verdict of a search.
 fn verdict_on(alloc: Global, judge: &Judge, goals: &Needs) -> Result<Verdict, AllocError>
     requires { NeedsFit (length judge.now.kernel.book.now.rows) goals.now }
-    ensures { IfOk result (λ verdict. verdict ≡ kernel_verdict (kernel_in judge.now) judge.now.budget goals.now) }
+    ensures { IfOk result (λ verdict. verdict
+        ≡ kernel_verdict (kernel_in judge.now) judge.now.budget goals.now) }
 {
     let verdict = judge.solver.verdict(alloc, goals, judge.budget)?;
     Ok(verdict)
@@ -79,10 +81,13 @@ fn verdict_alone(alloc: Global, judge: &Judge, kind: usize) -> Result<Verdict, A
     Ok(verdict)
 }
 
-/// Whether both goals are one class each, and these two conflict: then the root of their search clashes.
+/// Whether both goals are one class each, and these two conflict: then the root of their search
+/// clashes.
 fn are_rivals(book: &Book, first: &[u32], second: &[u32]) -> bool
-    requires first { (i : ℕ) → i < length first.now → slice_index_or first.now i 0 < length book.now.rows }
-    requires second { (i : ℕ) → i < length second.now → slice_index_or second.now i 0 < length book.now.rows }
+    requires first { (i : ℕ) → i < length first.now →
+        slice_index_or first.now i 0 < length book.now.rows }
+    requires second { (i : ℕ) → i < length second.now →
+        slice_index_or second.now i 0 < length book.now.rows }
     ensures { result ≡ true → AreRivals book.now.conflicts first.now second.now }
 {
     if first.len() != 1 || second.len() != 1 {
@@ -91,7 +96,7 @@ fn are_rivals(book: &Book, first: &[u32], second: &[u32]) -> bool
     book.conflicts_with(first[0], second[0])
 }
 
-/// The verdict on two kinds together, in this order; no search is made where their classes conflict.
+/// The verdict on two kinds together, in this order. No search is made if their classes conflict.
 pub(crate) fn verdict_together(
     alloc: Global,
     judge: &Judge,
@@ -132,12 +137,14 @@ fn is_single(goal: &[u32]) -> bool
     goal.len() == 1
 }
 
-/// Whether a list is asked for the verdict with the second goal: that is one of the first so many kinds, and one of both goals is
-/// a single class, so that their search is the same in both orders. It is not asked for two single classes in conflict: these
-/// need no search at all.
+/// Whether a list has the verdict with the second goal. That kind must be one of the first `count`,
+/// and one of both goals a single class, so that their search is the same in both orders. Two
+/// single classes in conflict need no search at all, and no list is asked for them.
 fn is_told(book: &Book, first: &[u32], second: &[u32], kind: usize, count: usize) -> bool
-    requires first { (i : ℕ) → i < length first.now → slice_index_or first.now i 0 < length book.now.rows }
-    requires second { (i : ℕ) → i < length second.now → slice_index_or second.now i 0 < length book.now.rows }
+    requires first { (i : ℕ) → i < length first.now →
+        slice_index_or first.now i 0 < length book.now.rows }
+    requires second { (i : ℕ) → i < length second.now →
+        slice_index_or second.now i 0 < length book.now.rows }
     ensures kind { result ≡ true → kind < count }
     ensures single { result ≡ true → IsOneClass first.now ⊎ IsOneClass second.now }
 {
@@ -160,7 +167,7 @@ fn entry_of(list: &[Bad], kind: usize) -> Option<&Bad>
     list.iter().find(|entry| entry.kind == kind)
 }
 
-/// The verdict with a kind that a list of bad kinds tells.
+/// The verdict with a kind by a list of bad kinds.
 fn entered(list: &[Bad], kind: usize) -> Verdict
     ensures { result ≡ entered_verdict list.now kind }
 {
@@ -170,8 +177,8 @@ fn entered(list: &[Bad], kind: usize) -> Verdict
     }
 }
 
-/// The verdict on two kinds together that go by themselves, in this order; no search is made where the second is an earlier one
-/// whose list tells it.
+/// The verdict, in this order, on two kinds together that each go by themselves. No search is made
+/// if the second is an earlier one and its list has the verdict.
 fn verdict_beside(
     alloc: Global,
     judge: &Judge,
@@ -195,7 +202,8 @@ fn verdict_beside(
     Ok(verdict)
 }
 
-/// The suspects that do not go together with a kind, or are not known to, with the verdicts; each goes by itself.
+/// The suspects that do not go together with a kind, or are not known to, with the verdicts; each
+/// goes by itself.
 fn bad_among(
     alloc: Global,
     judge: &Judge,
@@ -206,10 +214,12 @@ fn bad_among(
 ) -> Result<BadList, AllocError>
     requires singles { AreSingles judge.now singles.now }
     requires lists { AreAllBadTo judge.now lists.now (length lists.now) }
-    requires suspects { (i : ℕ) → i < length suspects.now → slice_index_or suspects.now i 0 < length judge.now.kinds.items }
+    requires suspects { (i : ℕ) → i < length suspects.now →
+        slice_index_or suspects.now i 0 < length judge.now.kinds.items }
     requires kind { kind < length judge.now.kinds.items }
     requires alone { is_yes (alone_in judge.now kind) ≡ true }
-    ensures { IfOk result (λ bad. bad ≡ flat_map (bad_entry judge.now singles.now kind) suspects.now) }
+    ensures { IfOk result (λ bad. bad
+        ≡ flat_map (bad_entry judge.now singles.now kind) suspects.now) }
 {
     let mut bad = Listed::new(alloc);
     for other in suspects {
@@ -228,7 +238,7 @@ fn bad_among(
     Ok(bad)
 }
 
-/// The kinds that are bad with a kind, where it goes by itself.
+/// The kinds that are bad with a kind, if that goes by itself.
 fn bad_with(
     alloc: Global,
     judge: &Judge,

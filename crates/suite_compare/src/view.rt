@@ -1,4 +1,5 @@
-//! Views of suites: a suite with its repository and the kernel of that, at a clause limit, with hold or without.
+//! Views of suites: a suite with its repository and the kernel of that, at a clause limit, with
+//! hold or without.
 ghost use Rattle.suite_compare.specs.Views.{IsViewOf, IsViewOf-prop};
 
 use clause_pool::Pool;
@@ -6,7 +7,8 @@ use kernel_rounds::Kernel;
 use repo_model::Suite;
 use row_book::Book;
 
-/// A suite with its repository, as a book over a pool, and the kernel of that, which tells whether it was made with hold.
+/// A suite with its repository, as a book over a pool, and the kernel of that, which says whether
+/// it was made with hold.
 #[derive(Drop)]
 pub struct SuiteView {
     /// The pool of the rows of the book, of the kernel and of its steps.
@@ -19,5 +21,6 @@ pub struct SuiteView {
     pub kernel: Kernel,
     /// The clause limit at which the kernel was made.
     pub limit: u32,
-    ghost of_suite: { IsViewOf pool suite.home suite.packages book kernel limit } by { IsViewOf-prop pool suite.home suite.packages book kernel limit },
+    ghost of_suite: { IsViewOf pool suite.home suite.packages book kernel limit } by { IsViewOf-prop
+        pool suite.home suite.packages book kernel limit },
 }

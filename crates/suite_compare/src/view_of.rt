@@ -16,14 +16,16 @@ use row_book::Book;
 use std::alloc::{AllocError, Global};
 
 impl SuiteView {
-    /// The view of an index, with at most so many clauses in any row on the way to its kernel: the index is read, and then
-    /// its kernel is extracted. With `hold` a package stays in the kernel where its elimination would make a row pass the limit.
+    /// The view of an index, with at most `limit` clauses in any row on the way to its kernel: the
+    /// index is read, and then its kernel is extracted. With `hold` a package stays in the kernel
+    /// if its elimination would make a row pass the limit.
     pub fn of(alloc: Global, bytes: &[u8], limit: u32, hold: bool) -> Result<SuiteView, ViewError>
         requires short { length bytes.now ≤ most_bytes }
         requires limit { 0 < limit }
         ensures refused { IfErr result (RefusesIndex bytes.now limit hold) }
         ensures accepted { OnOk result (first_fault bytes.now ≡ None) }
-        ensures within { OnOk result (limit_at limit hold (suite_repository (home_in bytes.now) (packages_in bytes.now)) ≡ None) }
+        ensures within { OnOk result (limit_at limit hold
+            (suite_repository (home_in bytes.now) (packages_in bytes.now)) ≡ None) }
         ensures packages { IfOk result (λ view. view.suite.packages ≡ packages_in bytes.now) }
         ensures home { IfOk result (λ view. view.suite.home ≡ home_in bytes.now) }
         ensures named { IfOk result (λ view. AreNamedPackages view.suite.packages) }
@@ -41,8 +43,9 @@ impl SuiteView {
         }
     }
 
-    /// The view of a suite, with at most so many clauses in any row on the way to its kernel; a refusal drops the suite. With
-    /// `hold` a package stays in the kernel where its elimination would make a row pass the limit.
+    /// The view of a suite, with at most `limit` clauses in any row on the way to its kernel. A
+    /// refusal drops the suite. With `hold` a package stays in the kernel if its elimination would
+    /// make a row pass the limit.
     pub fn of_suite(
         alloc: Global,
         suite: Suite,
@@ -51,7 +54,8 @@ impl SuiteView {
     ) -> Result<SuiteView, LimitError>
         requires { 0 < limit }
         ensures refused { IfErr result (RefusesSuite suite.home suite.packages limit hold) }
-        ensures within { OnOk result (limit_at limit hold (suite_repository suite.home suite.packages) ≡ None) }
+        ensures within { OnOk result
+            (limit_at limit hold (suite_repository suite.home suite.packages) ≡ None) }
         ensures packages { IfOk result (λ view. view.suite.packages ≡ suite.packages) }
         ensures home { IfOk result (λ view. view.suite.home ≡ suite.home) }
         ensures limit { IfOk result (λ view. view.limit ≡ limit) }
@@ -75,7 +79,7 @@ struct Reduced {
     kernel: Kernel,
 }
 
-/// The view of a suite of which this was made.
+/// The view of a suite, with what was made of it.
 fn view_with(suite: Suite, made: Reduced, limit: u32) -> SuiteView
     requires { IsViewOf made.pool suite.home suite.packages made.book made.kernel limit }
     ensures suite { result.suite ≡ suite }
@@ -96,8 +100,10 @@ fn view_with(suite: Suite, made: Reduced, limit: u32) -> SuiteView
 fn reduce_suite(alloc: Global, suite: &Suite, limit: u32, hold: bool) -> Result<Reduced, LimitError>
     requires { 0 < limit }
     ensures refused { IfErr result (RefusesSuite suite.now.home suite.now.packages limit hold) }
-    ensures within { OnOk result (limit_at limit hold (suite_repository suite.now.home suite.now.packages) ≡ None) }
-    ensures view { IfOk result (λ made. IsViewOf made.pool suite.now.home suite.now.packages made.book made.kernel limit) }
+    ensures within { OnOk result
+        (limit_at limit hold (suite_repository suite.now.home suite.now.packages) ≡ None) }
+    ensures view { IfOk result (λ made.
+        IsViewOf made.pool suite.now.home suite.now.packages made.book made.kernel limit) }
     ensures hold { IfOk result (λ made. made.kernel.hold ≡ hold) }
 {
     let mut pool = Pool::new(alloc)?;
@@ -121,8 +127,10 @@ fn reduce_in(
     requires pool { IsPool pool.old }
     requires limit { 0 < limit }
     ensures refused { IfErr result (RefusesSuite suite.now.home suite.now.packages limit hold) }
-    ensures within { OnOk result (limit_at limit hold (suite_repository suite.now.home suite.now.packages) ≡ None) }
-    ensures view { IfOk result (λ made. IsViewOf pool.new suite.now.home suite.now.packages made.0 made.1 limit) }
+    ensures within { OnOk result
+        (limit_at limit hold (suite_repository suite.now.home suite.now.packages) ≡ None) }
+    ensures view { IfOk result (λ made.
+        IsViewOf pool.new suite.now.home suite.now.packages made.0 made.1 limit) }
     ensures hold { IfOk result (λ made. made.1.hold ≡ hold) }
 {
     let book = suite.book(alloc, pool)?;
@@ -150,7 +158,9 @@ fn limit_of(
     count: u64,
 ) -> LimitError
     requires { over < length suite.now.packages }
-    ensures { (limit : ℕ) (hold : Bool) → limit_at limit hold (suite_repository suite.now.home suite.now.packages) ≡ Some (record { number = round; gone = gone; over = over; count = count }) →
+    ensures { (limit : ℕ) (hold : Bool) →
+        limit_at limit hold (suite_repository suite.now.home suite.now.packages)
+        ≡ Some (record { number = round; gone = gone; over = over; count = count }) →
         RefusesSuite suite.now.home suite.now.packages limit hold result }
 {
     match texts_of(alloc, &suite.packages.as_slice()[over as usize]) {
@@ -176,9 +186,11 @@ fn texts_of(alloc: Global, facts: &PackageFacts) -> Result<(Bytes, Bytes), Alloc
     Ok((name, version))
 }
 
-// The same refusal, of the index that the suite was read from.
+// The refusal as one of the index that the suite was read from.
 fn of_index(error: LimitError) -> ViewError
-    ensures { (text : List ℕ) (limit : ℕ) (hold : Bool) → first_fault text ≡ None → RefusesSuite (home_in text) (packages_in text) limit hold error → RefusesIndex text limit hold result }
+    ensures { (text : List ℕ) (limit : ℕ) (hold : Bool) → first_fault text ≡ None →
+        RefusesSuite (home_in text) (packages_in text) limit hold error →
+        RefusesIndex text limit hold result }
 {
     match error {
         LimitError::Limit {

@@ -10,11 +10,11 @@ use Rattle.row_book.specs.{declared.book.Book.{Book}, Book.{repository_of, AreCo
 use Rattle.row_book.specs.{Repository.{Repository, clauses_of}, Uses.{row_id}, Parts.{number_in, numbers_up, part, place_in}}
 use Rattle.row_book.proofs.{BookRepositories.{book_size, sound_repository}, Books.{clauses_row}, Flags.{flag_in}, Numbered.{number_back, up_count}}
 use Rattle.row_book.proofs.{Numbers.{at_numbers, length_numbers, numbers_more, numbers_parts}, Parts.{part_count, part_row}, Placed.{count_in, place_below}}
-use Rattle.suite_part.specs.Small.{AreApart, AreNeeded, HasRivals, IsSmall}
+use Rattle.suite_part.specs.Small.{HaveRivals, AreNeeded, HasRivals, IsSmall}
 
 -- packages that are needed, and their rivals
 pub apart_made : (from : Interned) (book : Book) (flags changed needed apart : List Bool) → Sound from book → length flags ≡ length book.rows → AreNeeded (repository_of from book) flags changed needed →
-    HasRivals book.conflicts flags needed apart → AreApart (repository_of from book) flags needed apart
+    HasRivals book.conflicts flags needed apart → HaveRivals (repository_of from book) flags needed apart
 apart_made from book flags changed needed apart sound size need rivals = record {
   whole = sound_repository from book sound.rows.is_pool sound;
   size = size ∙ sym (book_size from book);
@@ -27,13 +27,13 @@ apart_made from book flags changed needed apart sound size need rivals = record 
 
 -- the same of flags that were lent, and of flags that were counted
 pub apart_there : (from : Interned) (book : Book) (flags changed needed lent rivals apart : List Bool) → Sound from book → length flags ≡ length book.rows → AreNeeded (repository_of from book) flags changed needed →
-    lent ≡ needed → HasRivals book.conflicts flags lent rivals → apart ≡ rivals → AreApart (repository_of from book) flags needed apart
+    lent ≡ needed → HasRivals book.conflicts flags lent rivals → apart ≡ rivals → HaveRivals (repository_of from book) flags needed apart
 apart_there from book flags changed needed lent rivals apart sound size need whole has same =
     apart_made from book flags changed needed apart sound size need
     (subst (λ z. HasRivals book.conflicts flags needed z) (sym same) (subst (λ z. HasRivals book.conflicts flags z rivals) whole has))
 
 -- their numbers, one for each row of the part, have flags
-pub numbers_count : (from : Interned) (book : Book) (flags needed apart : List Bool) → AreApart (repository_of from book) flags needed apart → (before : Interned) (part_book : Book) →
+pub numbers_count : (from : Interned) (book : Book) (flags needed apart : List Bool) → HaveRivals (repository_of from book) flags needed apart → (before : Interned) (part_book : Book) →
     repository_of before part_book ≡ part apart (repository_of from book) → length (numbers_up apart) ≡ length part_book.rows
 numbers_count from book flags needed apart are before part_book part_is =
     up_count apart ∙ sym (part_count (repository_of from book) are.whole apart are.count) ∙ sym (ap (λ R. length R.clauses) part_is) ∙ book_size before part_book
@@ -54,7 +54,7 @@ which : (b : Bool) (x y : ℕ) → (cond b x y ≡ x) ⊎ (cond b x y ≡ y)
 which true x y = inl refl
 which false x y = inr refl
 
-module _ (from : Interned) (book : Book) (flags needed apart : List Bool) (are : AreApart (repository_of from book) flags needed apart)
+module _ (from : Interned) (book : Book) (flags needed apart : List Bool) (are : HaveRivals (repository_of from book) flags needed apart)
     (before after : Interned) (kept : Kept before after) (part_book : Book) (part_is : repository_of before part_book ≡ part apart (repository_of from book)) (part_sound : Sound before part_book)
     (empty : ℕ) (empty_within : empty < length after.rows) (empty_is : row_at after empty ≡ []) (made : Book) (lists_are : made.conflicts ≡ part_book.conflicts)
     (rows_are : made.rows ≡ map (λ k. cond (flag needed (number_in (numbers_up apart) k)) (row_id part_book.rows k) empty) (numbers (length part_book.rows) 0)) where

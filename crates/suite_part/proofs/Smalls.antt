@@ -14,7 +14,7 @@ use Rattle.clause_flatten.specs.Locality.{StandsIn}
 use Rattle.clause_flatten.proofs.{LocalRuns.{flat_is_local_lem, flat_stays, limit_is_local_lem}, Passing.{passes_none}, Rows.{row_is}, Stages.{left_bound}}
 use Rattle.listed.specs.Lists.{In, has, here}
 use Rattle.listed.proofs.{Bools.{same_bool}, Lists.{In_map_cases, In_none, any_cases, any_from, filter_cases, filter_same}}
-use Rattle.suite_part.specs.{Bases.{row_of_part}, Small.{AreApart, IsSmall, SmallTells, TellsOfMix}}
+use Rattle.suite_part.specs.{Bases.{row_of_part}, Small.{HaveRivals, IsSmall, SmallTells, TellsOfMix}}
 use Rattle.suite_part.proofs.{Backs.{numbers_rise}, Standing.{part_conflict}}
 
 -- what stands in another repository is told by the way back too
@@ -77,7 +77,7 @@ empty_row R V p bound e = none_inside (row R V p) (λ T i. ((row_is R V p bound)
 conflict_same : (R S : Repository) (q : ℕ) → length R.clauses ≡ length S.clauses → R.conflicts ≡ S.conflicts → has_conflict R q ≡ has_conflict S q
 conflict_same R S q e f = ap₂ (λ n t. list_any (λ m. has (slice_index_or t q []) m || has (slice_index_or t m []) q) (numbers n 0)) e f
 
-module _ (W : Repository) (flags needed apart : List Bool) (S : Repository) (a : AreApart W flags needed apart) (small : IsSmall W needed apart S) where
+module _ (W : Repository) (flags needed apart : List Bool) (S : Repository) (a : HaveRivals W flags needed apart) (small : IsSmall W needed apart S) where
   abbrev P : Repository
   P = part flags W
 

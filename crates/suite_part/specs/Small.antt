@@ -10,7 +10,7 @@ use Rattle.suite_part.specs.{Bases.{row_of_part, AreChanged, IsBase}, declared.b
 
 -- Packages of a mix that are needed, with all that they need there. For each that has conflicts
 -- there, there is at least one that it conflicts with.
-pub record AreApart (W : Repository) (flags needed apart : List Bool) : Type 0 where
+pub record HaveRivals (W : Repository) (flags needed apart : List Bool) : Type 0 where
   pub whole : SoundRepository W
   pub size : length flags ≡ length W.clauses
   pub count : length apart ≡ length W.clauses
@@ -43,7 +43,7 @@ pub record TellsOfMix (limit : ℕ) (W : Repository) (flags needed apart : List 
 
 abbrev pub SmallTells : Type 0
 SmallTells = (limit : ℕ) (W : Repository) (flags needed apart : List Bool) (S : Repository) →
-    AreApart W flags needed apart → IsSmall W needed apart S →
+    HaveRivals W flags needed apart → IsSmall W needed apart S →
     TellsOfMix limit W flags needed apart S
 
 -- what a base and a small book say together of a mix: the rows of packages that have changed come
@@ -55,7 +55,7 @@ pub record IsFollowed (from : Interned) (book : Book) (base : Base)
   pub long : length changed ≡ length flags
   pub changed_are : AreChanged (repository_of from book) base.flags.items flags changed
   pub needed_are : (n : ℕ) → flag flags n ≡ true → flag changed n ≡ true → flag needed n ≡ true
-  pub apart_are : AreApart (repository_of from book) flags needed apart
+  pub apart_are : HaveRivals (repository_of from book) flags needed apart
   pub small_is : IsSmall (repository_of from book) needed apart S
 
 -- the mix is within the limit exactly if the small book is
@@ -106,7 +106,7 @@ pub record IsSmallBook (from : Interned) (book : Book) (flags changed : List Boo
     (made : SmallBook) : Type 0 where
   pub needed : List Bool
   pub needed_are : AreNeeded (repository_of from book) flags changed needed
-  pub apart_are : AreApart (repository_of from book) flags needed made.apart.flags.items
+  pub apart_are : HaveRivals (repository_of from book) flags needed made.apart.flags.items
   pub sound : Sound made.pool made.book
   pub small_is : IsSmall (repository_of from book) needed made.apart.flags.items
       (repository_of made.pool made.book)

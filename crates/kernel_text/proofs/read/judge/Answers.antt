@@ -13,14 +13,14 @@ unreachable-requires c =
     (in_range bytes k.reading (lines_given (lines_of bytes) empty_reading k.reading 1 k.given)
     (ap (λ n. position_from (strays n) 1 (lines_of bytes)) (sym k.holds.classes) ∙ sym c.in_ok-line.ensures ∙ c.in_default.is))
 
-pub returns-then-not-is_ended-clause-refused : goal.returns-then-not-is_ended-clause-refused
-returns-then-not-is_ended-clause-refused c =
+pub returns-then-not-is_complete-clause-refused : goal.returns-then-not-is_complete-clause-refused
+returns-then-not-is_complete-clause-refused c =
     let k = c.requires.read in
-    end_fault c.args.bytes.now k.reading k.given (sym (c.is_ended.ensures k.reading k.holds) ∙ c.if-not-is_ended.true)
+    end_fault c.args.bytes.now k.reading k.given (sym (c.is_complete.ensures k.reading k.holds) ∙ c.if-not-is_complete.true)
 
 pub returns-then-not-is_in_range-clause-refused : goal.returns-then-not-is_in_range-clause-refused
 returns-then-not-is_in_range-clause-refused c =
     let k = c.requires.read in
     let bytes = c.args.bytes.now in
-    ranged bytes k.reading k.given (Some c.in-Some.line) (sym (c.is_ended.ensures k.reading k.holds) ∙ c.if-not-is_ended.false)
+    ranged bytes k.reading k.given (Some c.in-Some.line) (sym (c.is_complete.ensures k.reading k.holds) ∙ c.if-not-is_complete.false)
     (ap (λ n. position_from (strays n) 1 (lines_of bytes)) (sym k.holds.classes) ∙ sym c.in_ok-line.ensures ∙ c.in-Some.is)

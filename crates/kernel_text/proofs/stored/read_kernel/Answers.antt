@@ -1,14 +1,14 @@
 use Rattle.std.proofs.Common.{◌≡◌, ◌<◌, ℕ, List, Ok, true, length, sym, subst, ◌∙◌}
 use Rattle.listed.specs.Lists.{In}
 use Rattle.row_book.specs.Book.{repository_of}
-use Rattle.kernel_text.specs.{KernelLines.{lines_of}, Reading.{Reading, empty_reading}, StoredReading.{is_ended, read_lines}}
+use Rattle.kernel_text.specs.{KernelLines.{lines_of}, Reading.{Reading, empty_reading}, StoredReading.{is_complete, read_lines}}
 use Rattle.kernel_text.proofs.{Allowed.{IsEnded, LinesGive, ends_told}, Bookable.{bookable, orderly}, ReadIsWritten.{written}, StoredReading.{lines_given}}
 use Rattle.kernel_text.proofs.stored.read_kernel.Goals as goal
 
 as_given : (bytes : List ℕ) (t : Reading) → read_lines empty_reading 1 (lines_of bytes) ≡ Ok t → LinesGive empty_reading (lines_of bytes) t
 as_given bytes t e = lines_given (lines_of bytes) empty_reading t 1 e
 
-as_ended : (t : Reading) → is_ended t ≡ true → IsEnded t
+as_ended : (t : Reading) → is_complete t ≡ true → IsEnded t
 as_ended t e = (ends_told t.last t.classes (length t.members)).0 e
 
 pub book_of-requires : goal.book_of-requires

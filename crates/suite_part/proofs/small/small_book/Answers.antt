@@ -4,7 +4,7 @@ use Rattle.listed.specs.Lists.{In}
 use Rattle.row_book.specs.{Flags.{flag}, Parts.{number_in, numbers_up}, Uses.{row_id}, Book.{repository_of}}
 use Rattle.row_book.proofs.Numbers.{length_numbers}
 use Rattle.suite_part.proofs.SmallMade.{apart_there, numbers_count, numbers_within, rows_told, small_is, small_sound}
-use Rattle.suite_part.specs.Small.{AreApart}
+use Rattle.suite_part.specs.Small.{HaveRivals}
 use Rattle.suite_part.proofs.small.small_book.Goals as goal
 
 pub rows_or-requires-clause-count : goal.rows_or-requires-clause-count
@@ -44,7 +44,7 @@ returns c =
     let part_book = c.in_ok-part.part in
     let empty = c.in_ok-empty.empty in
     let made = c.in_ok-small.small in
-    let are : AreApart (repository_of from book) flags needed apart =
+    let are : HaveRivals (repository_of from book) flags needed apart =
     apart_there from book flags c.args.changed.now needed c.deref.result.now c.in_ok-rivals.rivals.items apart c.requires.book c.requires.flags c.in_ok-needed.ensures c.deref.ensures.value c.in_ok-rivals.ensures
     c.in_ok-apart.ensures in
     let lent = rows_told c.deref-3.result.now needed c.as_slice-2.result.now (numbers_up apart) c.as_slice.result.now part_book.rows empty c.deref-3.ensures.value

@@ -30,6 +30,11 @@ def tag(name: str, text: str = "", kind: str = "", **attributes: str | None) -> 
     return "<%s%s%s>%s</%s>" % (name, ' class="%s"' % kind if kind else "", told, text, name)
 
 
+def numbers(cells: Iterable[str], kind: str = "td") -> str:
+    """Cells of a table, to the right in a text browser too."""
+    return "".join(tag(kind, esc(cell), "n" + (" zero" if cell.strip("+-") in ("0", "") else ""), align="right") for cell in cells)
+
+
 def place_of(names: Sequence[str], every: Sequence[str]) -> str:
     told = where(names, every)
     return "on %s only" % told[5:] if told.startswith("only ") else "on " + told if told.startswith("all") else told
@@ -84,10 +89,9 @@ class Page:
         return "".join(told)
 
     def suites(self) -> str:
-        rows = [tag("tr", tag("th") + "".join(tag("th", esc(name), "n") for name in self.places))]
+        rows = [tag("tr", tag("th") + numbers(self.places, "th"))]
         for head, cells in number_rows(self.report, self.open):
-            told = "".join(tag("td", esc(cell), "n" + (" zero" if cell.strip("+-") in ("0", "") else "")) for cell in cells)
-            rows.append(tag("tr", tag("th", esc(head).replace("  ", 2 * HARD)) + told))
+            rows.append(tag("tr", tag("th", esc(head).replace("  ", 2 * HARD), align="left") + numbers(cells)))
         remarks = ["%s: %s." % (one.architecture, told) for one in self.report.architectures for told in sets_remarks(one)]
         return tag("table", "".join(rows), "suites") + "".join(tag("p", esc(told), "quiet") for told in remarks)
 
@@ -207,7 +211,8 @@ class Page:
         rows += [("broken " + esc(place_of(group.on, self.places)), self.group(group)) for group in cause.lines]
         rows += [("sets on " + esc(place), self.sets(sets)) for place, sets in cause.sets.items()]
         rows.append(("key", tag("code", esc(cause.key)) + " " + tag("a", "#" + cause.id, href="#" + cause.id)))
-        return tag("div", tag("table", "".join(tag("tr", tag("th", head) + tag("td", told)) for head, told in rows)), "body")
+        cells = ((tag("th", head) + tag("td", told)) for head, told in rows)
+        return tag("div", tag("table", "".join(tag("tr", some, valign="top", align="left") for some in cells)), "body")  # for text browsers
 
     @staticmethod
     def otherwise(more: Sequence[str], fewer: Sequence[str]) -> str:
@@ -256,7 +261,7 @@ class Page:
                 for place, number in enumerate((1, cause.total("names"), cause.total("pairs"), cause.total("sets"))):
                     row[place] += number
         ranked = sorted(table, key=lambda name: (*(-number for number in table[name][1:]), name))
-        return "".join(tag("tr", tag("td", self.source(named[name])) + "".join(tag("td", format(n, ","), "n") for n in table[name])) for name in ranked)
+        return "".join(tag("tr", tag("td", self.source(named[name])) + numbers(format(n, ",") for n in table[name])) for name in ranked)
 
     def undecided(self) -> str:
         lines = ["%s: %s" % (place, " ".join(line)) for place, line in open_lines(self.report)]
@@ -269,7 +274,7 @@ class Page:
 
     def inputs(self) -> str:
         files = [file for one in self.report.architectures for file in (one.old, one.new)]
-        rows = (tag("tr", tag("td", esc(f.name)) + tag("td", format(f.packages, ","), "n") + tag("td", tag("code", f.sha256))) for f in files)
+        rows = (tag("tr", tag("td", esc(f.name)) + numbers([format(f.packages, ",")]) + tag("td", tag("code", f.sha256))) for f in files)
         program = tag("tr", tag("td", "the program") + tag("td") + tag("td", tag("code", esc(self.report.program))))
         return tag("table", tag("tr", tag("th", "index") + tag("th", "packages", "n") + tag("th", "SHA-256")) + "".join(rows) + program)
 

@@ -73,8 +73,12 @@ class Page:
             "WIDTH": "%.1f" % max(4.2, 0.9 + 0.5 * self.width), "SECTIONS": "".join(self.section(what, words) for what, words in KINDS) + self.allowed(),
             "KINDS": "".join(tag("option", esc(kind)) for kind in dict.fromkeys(cause.kind for cause in self.causes)),
             "PLACES": "".join(tag("option", esc(name)) for name in self.places), "SOURCES": self.sources(), "OPEN": self.undecided(),
-            "DROPPED": self.dropped(), "INPUTS": self.inputs(),
+            "DROPPED": self.dropped(), "INPUTS": self.inputs(), **self.filters(),
         }
+
+    def filters(self) -> dict[str, str]:
+        """Filters that all causes pass are hidden: of age without an earlier report, of places with one architecture."""
+        return {name: "" if is_of_use else " hidden" for name, is_of_use in (("AGE", bool(self.report.since)), ("SEVERAL", len(self.places) > 1))}
 
     # The head
 

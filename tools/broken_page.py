@@ -198,7 +198,7 @@ class Page:
     @staticmethod
     def headline(cause: Cause) -> str:
         """The key in words: what is new, gone or depended on; of several changes, those beside the one that it stands under."""
-        names = [part.partition(":")[2].replace("+", " + ") for part in cause.changes if part != cause.under]
+        names = dict.fromkeys(part.partition(":")[2].replace("+", " + ") for part in cause.changes if part != cause.under)
         if cause.under:
             return tag("span", "with ", "quiet") + esc(" and ".join(names))
         return tag("b", esc(" and ".join(names))) + " " + tag("span", esc(cause.kind), "kind")

@@ -12,6 +12,7 @@ from collections.abc import Iterable, Sequence
 
 from broken_changes import Chain, Change, Changes, Clash, Reason, Strike, merged, pair_text
 from broken_records import Found, Line, Step
+from built import NOT_BUILT, leave
 from command import Program, progress
 from debian_index import TEXT, Index
 from needs import Needs
@@ -49,9 +50,11 @@ class Asking:
         return path
 
     def compare(self, old_path: str, new_path: str) -> tuple[int, list[Line], list[Line]]:
-        """The status, the broken lines and the open ones."""
+        """The status, the broken lines and the open ones; the last line of an answer says how many these are."""
         status, answer = self.program.ask("compare", old_path, new_path)
-        broken, left = ([tuple(words[1:]) for words in answer if words[0] == word] for word in ("broken", "open"))
+        broken, left = ([tuple(words[1:]) for words in answer if words[:1] == [word]] for word in ("broken", "open"))
+        if answer[-1:] != [["end", str(len(broken)), str(len(left))]]:
+            leave(NOT_BUILT, "the program ends `compare` with status %d and no whole answer" % status)
         return status, broken, left
 
     def explain(self, index: Index, names: Line, strike: Strike | None = None) -> list[Clash]:

@@ -8,7 +8,7 @@ from __future__ import annotations
 import collections
 import itertools
 import os
-from collections.abc import Iterable, Sequence
+from collections.abc import Callable, Iterable, Sequence
 
 from broken_changes import Chain, Change, Changes, Clash, Reason, Strike, merged, pair_text
 from broken_records import Found, Line, Step
@@ -93,8 +93,12 @@ class Cause:
     def key(self) -> str:
         return " & ".join(change.key for change in self.changes)
 
-    def reasons(self) -> list[Reason]:
-        return [reason for line in self.lines for reason in self.lines[line]]
+    def counted(self, texts: Callable[[Reason], Iterable[str]]) -> list[tuple[str, int]]:
+        """Texts of reasons and of how many lines each is, the most first; several reasons of a line may say the same."""
+        counts: collections.Counter[str] = collections.Counter()
+        for reasons in self.lines.values():
+            counts.update(list(dict.fromkeys(text for reason in reasons for text in texts(reason))))
+        return counts.most_common()
 
     def example(self) -> tuple[Line, list[Chain]]:
         """The first line, but of names with one chain the one that says most, which is of three steps; and its chains."""
@@ -106,20 +110,18 @@ class Cause:
     def notes(self) -> list[tuple[str, int]]:
         """Notes and of how many lines they are: first those of the changes, then what still holds a line, then by number."""
         kept = {note: 0 for change in self.changes for note in change.notes}
-        counted = collections.Counter(note for reason in self.reasons() for note in reason.notes)
-        return [*kept.items(), *self.held.items(), *counted.most_common()]
+        return [*kept.items(), *self.held.items(), *self.counted(lambda reason: reason.notes)]
 
     def found(self, changes: Changes) -> Found:
         """The cause as a record."""
         line, chains = self.example()
         clashes = [clash for reason in self.lines[line] for clash in reason.clashes]
-        in_need = collections.Counter(text for reason in self.reasons() for text in reason.in_need)
         sources = dict.fromkeys(source for change in self.changes for source in change.sources)
         return Found(
             key=self.key(), kind=" and ".join(dict.fromkeys(change.kind for change in self.changes)),
             title="; and ".join(change.title() for change in self.changes), sources=[changes.source(source) for source in sources],
             lines=sorted(self.lines), mended=self.mended, confirmed=self.confirmed, why=changes.why(line, chains, clashes, len(self.changes) == 1),
-            notes=self.notes(), in_need=in_need.most_common(),
+            notes=self.notes(), in_need=self.counted(lambda reason: reason.in_need),
         )
 
 

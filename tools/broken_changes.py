@@ -313,22 +313,31 @@ class Changes:
         if links:
             change, in_need = self.new_needs(links)
             return Reason(change, self.chains(line, clashes, needs), in_need, self.conflict_notes(clashes), clashes)
-        return self.first_new_need(line, clashes, needs, strike or {}) if clashes else None
+        return self.first_new_need(line, clashes, needs, strike) if clashes else None
 
-    def first_new_need(self, line: Line, clashes: list[Clash], needs: Needs, strike: Strike) -> Reason | None:
-        """The first dependency on the ways to the conflicts that is new, or satisfied by fewer, and without which the line is mended."""
+    def first_new_need(self, line: Line, clashes: list[Clash], needs: Needs, strike: Strike | None) -> Reason | None:
+        """The first dependency on the ways to the conflicts that is new, or satisfied by fewer, and without which the line is mended.
+
+        With a strike, if none mends the line, it is the first that is new: others may mend it together with that.
+        """
         ways = self.chains(line, clashes, needs)
         links: dict[tuple[Package, str], list[Link]] = collections.defaultdict(list)
         for way in ways:
             for (package, element, _), (target, _, _) in itertools.pairwise(way):
                 links[package, element].append((package, element, target))
-        for asked in sorted(filter(self.has_changed, links), key=lambda asked: self.asked_before(*asked)):
-            tried = self.needs_change(links[asked])
-            self.add_link(tried, *links[asked][0])
-            if self.asking.well([line], self.new, merged([strike, tried.strike])):
-                change, in_need = self.new_needs(links[asked])
-                return Reason(change, ways, in_need[:1], self.conflict_notes(clashes), clashes)
-        return None
+        changed = sorted(filter(self.has_changed, links), key=lambda asked: self.asked_before(*asked))
+        fresh = [asked for asked in changed if not self.asked_before(*asked)] if strike is not None else []
+        mending = (asked for asked in changed if self.is_mended_without(line, links[asked], strike or {}))
+        if not (asked := next(mending, next(iter(fresh), None))):
+            return None
+        change, in_need = self.new_needs(links[asked])
+        return Reason(change, ways, in_need[:1], self.conflict_notes(clashes), clashes)
+
+    def is_mended_without(self, line: Line, links: list[Link], strike: Strike) -> bool:
+        """Whether the line is mended without a dependency, and without what is struck already."""
+        tried = self.needs_change(links)
+        self.add_link(tried, *links[0])
+        return bool(self.asking.well([line], self.new, merged([strike, tried.strike])))
 
     def has_changed(self, asked: tuple[Package, str]) -> bool:
         """Whether a dependency (package, element) is new, or satisfied by fewer than in OLD."""
@@ -348,7 +357,7 @@ class Changes:
             if all(leading):
                 return [needs.chain(names[0], needs.leading_to((end,))) for names, end in zip(leading, clashes[0])]
         ends = [end for clash in clashes for end in clash]
-        return [way for name in line for way in ways(self.new.named[name], ends, self.new)]
+        return [way for name in line for way in ways(self.new.named[name], ends, needs)]
 
     # As records
 

@@ -119,8 +119,8 @@ class Needs:
         return self.chain_from(min(self.index.named[name], key=lambda p: why[p].place), why)
 
 
-def ways(starts: Iterable[Package], ends: Collection[Package], index: Index) -> list[Chain]:
-    """A shortest way through needs to each of these packages, forced or not, in the form of `Needs.chain`; none to what is not reached."""
+def ways(starts: Iterable[Package], ends: Collection[Package], needs: Needs) -> list[Chain]:
+    """A shortest way to each of these packages, forced or not, in the form of `Needs.chain`; none to what is not reached."""
     came: dict[Package, tuple[Package, str, int] | None] = dict.fromkeys(starts)
     left = set(ends)
     queue = list(came)
@@ -128,8 +128,8 @@ def ways(starts: Iterable[Package], ends: Collection[Package], index: Index) -> 
         left.discard(package)
         if not left:
             break
-        for element in package.needs:
-            meeting = index.meeting(element)
+        for element in needs.elements(package):
+            meeting = needs.index.meeting(element)
             for met in meeting:
                 if met not in came:
                     came[met] = package, element, len(meeting)

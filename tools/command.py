@@ -34,14 +34,17 @@ _told = time.monotonic()  # when the last line of progress was written
 
 
 def progress(text: str) -> None:
-    """How far a script is: one line that is written over on a terminal, and else a line a minute; without a text it is wiped."""
+    """How far a script is: one line that is written over on a terminal, and else a line a minute; without a text it is wiped.
+
+    Where what a script says is caught, as a part of a report, it is not said.
+    """
     global _told
     stream = sys.__stderr__
     if stream and stream.isatty():
         width = shutil.get_terminal_size().columns - 1
         stream.write("\r" + text[:width].ljust(width) + "\r" * (not text))
         stream.flush()
-    elif text and time.monotonic() - _told >= MINUTE:
+    elif text and sys.stderr is stream and time.monotonic() - _told >= MINUTE:
         _told = time.monotonic()
         say(text)
 

@@ -12,9 +12,9 @@ It shares no code with the program, with what made the tree, or with the reader 
              | {"package": PACKAGE, "relation": TEXT, "either": [[PACKAGE, NODE]..]}  held, depends on TEXT; each package that satisfies it
     PACKAGE  = [NAME, VERSION]
 
-Held are the packages of the lemma and those of the branches passed. Refused are: a branch too few or too many, a relation that is
-not in the package's Depends or Pre-Depends, a conflict that is not declared, and a branch whose end does not need its package.
-It prints `accepted`, or says what it refuses, with status 1.
+Held are the packages of the lemma and those of the branches passed. Refused are: a branch too few or too many, a relation that is not in the
+package's Depends or Pre-Depends, a conflict that is not declared, and a branch whose end does not need its package. It prints
+`accepted`, or says in a line what it refuses, with status 1, or what it cannot read, with status 2.
 """
 
 from __future__ import annotations
@@ -24,6 +24,7 @@ import gc
 import itertools
 import json
 import re
+import signal
 import sys
 from typing import Any
 
@@ -44,8 +45,7 @@ def compare_part(a: str, b: str) -> int:
     """The algorithm of deb-version(7), by hand: text until a digit, then a number, and again."""
     while a or b:
         while (a and not a[0].isdigit()) or (b and not b[0].isdigit()):
-            x = a[0] if a and not a[0].isdigit() else ""
-            y = b[0] if b and not b[0].isdigit() else ""
+            x, y = ("" if v[:1].isdigit() else v[:1] for v in (a, b))
             if order(x) != order(y):
                 return order(x) - order(y)
             a, b = a[len(x) :], b[len(y) :]
@@ -94,11 +94,12 @@ class Facts:
                     fields = {}
                 elif last in FIELDS:
                     fields[last] += " " + line.strip()
+        self.local = {"", "any", "native", "all", self.home}  # the qualifiers that mean the architecture of the index
         for key, fields in self.packages.items():
             self.offers.setdefault(key[0], []).append((key, key[1]))
-            for text in self.split(fields["provides"]) if "provides" in fields else ():
+            for text in self.field(key, "provides") if "provides" in fields else ():
                 name, qualifier, _, version = atom(text)
-                if self.local(qualifier):
+                if qualifier in self.local:
                     self.offers.setdefault(name, []).append((key, version))
 
     def stanza(self, fields: dict[str, str]) -> None:  # keeps the fields of a stanza that count
@@ -106,41 +107,27 @@ class Facts:
             self.packages[fields["package"], fields["version"]] = fields
             self.home = fields["architecture"] if fields.get("architecture", "all") != "all" else self.home
 
-    def split(self, value: str | None) -> list[str]:  # the elements of a field
-        return [" ".join(text.split()) for text in (value or "").split(",") if text.strip()]
-
-    def local(self, qualifier: str) -> bool:  # whether a qualifier means the architecture of the index
-        return qualifier in ("", "any", "native", "all", self.home)
-
     def satisfy(self, relation: str) -> set[Key]:  # the packages that satisfy a relation
         if relation not in self.known:
             found = self.known[relation] = set()
             for name, qualifier, operator, bound in map(atom, relation.split("|")):
-                for key, version in self.offers.get(name, ()) if self.local(qualifier) else ():
-                    if not operator:
+                for key, version in self.offers.get(name, ()) if qualifier in self.local else ():
+                    c = compare(version, bound) if operator else 0
+                    fits = {"": True, "<<": c < 0, "<=": c <= 0, "<": c <= 0, "=": c == 0, ">=": c >= 0, ">": c >= 0, ">>": c > 0}[operator]
+                    if fits and (version or not operator):
                         found.add(key)
-                    elif version:
-                        c = compare(version, bound)
-                        if {"<<": c < 0, "<=": c <= 0, "<": c <= 0, "=": c == 0, ">=": c >= 0, ">": c >= 0, ">>": c > 0}[operator]:
-                            found.add(key)
         return self.known[relation]
 
     def field(self, key: Key, *names: str) -> list[str]:  # the elements of some fields of a package
-        return [text for name in names for text in self.split(self.packages[key].get(name))]
+        texts = ",".join(self.packages[key].get(name, "") for name in names).split(",")
+        return [" ".join(text.split()) for text in texts if text.strip()]
 
-    def against(self, x: Key, y: Key) -> bool:  # whether x declares against y
-        return any(y in self.satisfy(text) for text in self.field(x, "conflicts", "breaks"))
-
-    def conflict(self, a: Key, b: Key) -> bool:  # whether two packages conflict
-        return a != b and (a[0] == b[0] or self.against(a, b) or self.against(b, a))
+    def conflict(self, a: Key, b: Key) -> bool:  # whether two packages have one name, or one declares against the other
+        return a != b and (a[0] == b[0] or any(y in self.satisfy(e) for x, y in ((a, b), (b, a)) for e in self.field(x, "conflicts", "breaks")))
 
     def named(self, word: str) -> set[Key]:  # the packages that a goal names
         name, equals, version = word.partition("=")
         return {k for k, v in self.offers.get(name, ()) if k[0] == name and (not equals or compare(k[1], version) == 0)}
-
-
-def key_of(package: list[str]) -> Key:  # a PACKAGE of a tree
-    return package[0], package[1]
 
 
 def demand(true: bool, text: str) -> None:  # refuses the tree if this is not so
@@ -154,12 +141,15 @@ def check(facts: Facts, tree: Node, asked: list[str]) -> None:
     lemmas: list[set[Key]] = []
     sys.setrecursionlimit(20000)
 
+    def key_of(package: list[str]) -> Key:  # a PACKAGE of a tree
+        return package[0], package[1]
+
     def walk(node: Node, held: set[Key], goals: list[str]) -> set[Key]:  # the held packages that the node's end needs
         needs: set[Key] = set()
         if "conflict" in node:
             a, b = map(key_of, node["conflict"])
-            demand({a, b} <= held, "%s and %s: not both are held here" % (a, b))
-            demand(facts.conflict(a, b), "%s and %s do not conflict" % (a, b))
+            demand({a, b} <= held, "%s %s and %s %s: not both are held here" % (*a, *b))
+            demand(facts.conflict(a, b), "%s %s and %s %s do not conflict" % (*a, *b))
             return {a, b}
         if "lemma" in node:
             demand(0 <= node["lemma"] < len(lemmas), "no such lemma before")
@@ -192,9 +182,19 @@ def check(facts: Facts, tree: Node, asked: list[str]) -> None:
 
 
 if __name__ == "__main__":
+    signal.signal(signal.SIGINT, signal.SIG_DFL)  # Ctrl-C ends it in silence
     gc.disable()  # of what is read, nothing goes before the end
+    wrong = "INDEX, TREE.json and goals are wanted"
     try:
-        check(Facts(sys.argv[1]), json.load(open(sys.argv[2], encoding="utf-8")), sys.argv[3:])
+        path, tree, *goals = sys.argv[1:]
+        wrong = "%s cannot be read as an index" % path
+        facts = Facts(path)
+        wrong = "%s cannot be read as a tree" % tree
+        check(facts, json.load(open(tree, encoding="utf-8")), goals)
         print("accepted")
     except Refused as fault:
         sys.exit("refused: %s" % fault)
+    except (AttributeError, LookupError, OSError, RecursionError, TypeError, ValueError) as fault:
+        why = "it lacks %s" % fault if isinstance(fault, KeyError) else getattr(fault, "strerror", None) or fault
+        print("%s: %s" % (wrong, why), file=sys.stderr)
+        sys.exit(2)

@@ -4,8 +4,9 @@ from __future__ import annotations
 
 import os
 import subprocess
+import sys
 
-from built import NOT_BUILT, TOP, leave
+from built import BUILT, NOT_BUILT, TOP, leave
 
 
 def crates() -> dict[str, list[str]]:
@@ -42,6 +43,20 @@ def kit_folder() -> str:
     if not page:
         leave(NOT_BUILT, "no `rt` is on the path: the Rattle kit is needed, and `rt version` prints its name")
     return os.path.dirname(page)
+
+
+def compiled() -> str:
+    """The program of these sources, compiled if need be; if the script is ended meanwhile, it waits until tools/compile has taken its folder away."""
+    with subprocess.Popen([os.path.join(TOP, "tools", "compile")]) as running:
+        try:
+            status = running.wait()
+        except BaseException:
+            running.terminate()
+            running.wait()
+            raise
+    if status:
+        sys.exit(status)
+    return BUILT
 
 
 def library_words(name: str, uses: list[str], folder: str) -> list[str]:

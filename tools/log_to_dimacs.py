@@ -12,8 +12,10 @@ those of the query. Class N of the kernel is variable N + 1. FOLDER, which is ma
                      entry. Each must be refuted by unit propagation alone: `cadical -q -n -d 0 step-0001.cnf` decides
                      nothing, and ends with status 20.
 
-Ends with status 2 where the report is no refusal.
+The status is 0, or 2 if the report is no refusal, or a file cannot be read.
 """
+
+from __future__ import annotations
 
 import sys
 
@@ -21,41 +23,66 @@ sys.dont_write_bytecode = True
 from quiet import until_run
 
 until_run()
+import argparse
 import os
+import typing
 
 from command import parser_of, run
 from debian_index import version_key
 
 
-def read_kernel(path):
-    members, clauses, conflicts, at = [], [], [], -1
+Clause = typing.List[int]  # literals, as DIMACS has them
+
+
+class Member(typing.NamedTuple):
+    """A package of a class."""
+
+    at: int
+    name: str
+    version: str
+
+
+class Kernel(typing.NamedTuple):
+    """The classes of a kernel: how many, their members, and the clauses."""
+
+    classes: int
+    members: list[Member]
+    clauses: list[Clause]
+
+
+def read_kernel(path: str) -> Kernel:
+    members: list[Member] = []
+    clauses: list[Clause] = []
+    conflicts: list[Clause] = []
+    at = -1
     with open(path, encoding="utf-8", errors="surrogateescape") as kernel:
         for line in kernel:
             word, *rest = line.split()
             if word == "class":
                 at = int(rest[0])
             elif word == "member":
-                members.append((at, rest[0], rest[1]))
+                members.append(Member(at, rest[0], rest[1]))
             elif word == "needs":
                 clauses.append([-(at + 1)] + [int(n) + 1 for n in rest])
             elif word == "against":
                 conflicts.append([-(at + 1), -(int(rest[0]) + 1)])
-    return at + 1, members, clauses + conflicts
+    return Kernel(at + 1, members, clauses + conflicts)
 
 
-def clause_of(goal, members):
+def clause_of(goal: str, members: list[Member]) -> Clause:
     """The classes of the packages that the goal names."""
     name, equals, version = goal.partition("=")
-    named = [(at, text) for at, own, text in members if own == name]
-    return sorted({at + 1 for at, text in named if not equals or version_key(text) == version_key(version)})
+    named = [member for member in members if member.name == name]
+    return sorted({member.at + 1 for member in named if not equals or version_key(member.version) == version_key(version)})
 
 
-def read_log(path):
+def read_log(path: str) -> list[Clause] | None:
+    """The entries of a log; None if the report is no refusal."""
     with open(path, encoding="utf-8") as report:
         lines = report.read().splitlines()
     if not lines or lines[0] != "no":
         return None
-    entries = []
+    entries: list[Clause] = []
     for line in lines[1:]:
         word, *literals = line.split()
         assert word == "log", line
@@ -63,14 +90,14 @@ def read_log(path):
     return entries
 
 
-def write_formula(path, variables, clauses):
+def write_formula(path: str, variables: int, clauses: list[Clause]) -> None:
     with open(path, "w", encoding="ascii") as out:
         out.write("p cnf %d %d\n" % (variables, len(clauses)))
         for clause in clauses:
             out.write(" ".join(map(str, clause + [0])) + "\n")
 
 
-def words_of():
+def words_of() -> argparse.Namespace:
     parser = parser_of(__doc__)
     for name in ("kernel", "report", "folder"):
         parser.add_argument(name)
@@ -78,24 +105,23 @@ def words_of():
     return parser.parse_args()
 
 
-def main():
+def main() -> int:
     words = words_of()
-    report, folder, goals = words.report, words.folder, words.goals
-    classes, members, formula = read_kernel(words.kernel)
-    formula = [clause_of(goal, members) for goal in goals] + formula
-    entries = read_log(report)
+    folder, kernel = words.folder, read_kernel(words.kernel)
+    formula = [clause_of(goal, kernel.members) for goal in words.goals] + kernel.clauses
+    entries = read_log(words.report)
     if entries is None:
-        print("%s is no refusal" % report, file=sys.stderr)
+        print("%s is no refusal" % words.report, file=sys.stderr)
         return 2
     os.makedirs(folder, exist_ok=True)
-    write_formula(os.path.join(folder, "formula.cnf"), classes, formula)
+    write_formula(os.path.join(folder, "formula.cnf"), kernel.classes, formula)
     with open(os.path.join(folder, "proof.rup"), "w", encoding="ascii") as out:
         for entry in entries:
             out.write(" ".join(map(str, entry + [0])) + "\n")
     for place, entry in enumerate(entries):
         negated = [[-literal] for literal in entry]
-        write_formula(os.path.join(folder, "step-%04d.cnf" % (place + 1)), classes, formula + entries[:place] + negated)
-    print("%d classes, %d clauses, %d entries" % (classes, len(formula), len(entries)))
+        write_formula(os.path.join(folder, "step-%04d.cnf" % (place + 1)), kernel.classes, formula + entries[:place] + negated)
+    print("%d classes, %d clauses, %d entries" % (kernel.classes, len(formula), len(entries)))
     return 0
 
 

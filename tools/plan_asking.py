@@ -17,7 +17,7 @@ from plan_always import Always
 from plan_faults import Fault, Faults, Installable
 from plan_mixes import BOTH, NEW, OLD, Built, Everywhere, Files, Mix, Rules, Suites, newest
 from plan_program import Coinst, Line, Refused
-from plan_switches import RENAMED, RESERVED, SWITCH, Group, encoded, place_of
+from plan_switches import HOME, RENAMED, RESERVED, SWITCH, Group, encoded, place_of, stanza
 
 NOBODY = SWITCH + "nobody"
 Outcome = Line | None  # of a group: a line that refuses it, () where it is taken, None where it has nothing here
@@ -226,7 +226,8 @@ class Asking:
     def clashing(self, names: Sequence[str], come: Mix) -> set[str]:
         """The sources that would change a package of the conflicts that keep names apart in a mix."""
         found: set[str] = set()
-        for line in self.program.ask("explain", [self.program.write("why", self.suites.mix_text(come))], names):
+        texts = [stanza(HOME, 0, architecture=self.home), *(p.text for p in self.suites.reach(names, come))]
+        for line in self.program.ask("explain", [self.program.write("why", "\n".join(texts))], names):
             if line[0].startswith("clash") and len(line) == 5:
                 for name, version in (line[1:3], line[3:5]):
                     found |= self.changing(name, version)

@@ -16,7 +16,7 @@ import re
 from collections.abc import Iterable, Set
 from typing import cast
 
-from debian_index import AGAINST, TEXT, Index, Offers, Package, no_collection, packages_of, version_key
+from debian_index import AGAINST, PLACE, TEXT, Index, Offers, Package, no_collection, packages_of, version_key
 
 BOTH, OLD, NEW = "both", "old", "new"
 LIBRARY = re.compile(rb"\nSection:[ \t]*(?:\S+/)?(?:libs|oldlibs)[ \t]*(?=\n|$)", re.I)
@@ -168,8 +168,15 @@ class Suites:
     def has_name(self, name: str, come: Mix) -> bool:
         return any(p.is_in(come) for p in self.named(name))
 
-    def mix_text(self, come: Mix) -> str:
-        return "\n".join(p.text for p in self.packages if p.is_in(come))
+    def reach(self, names: Iterable[str], come: Mix) -> list[Member]:
+        """What the packages of some names in a mix may need there, to the end: whether these names can be installed is decided by it alone."""
+        todo = [p for name in names for p in self.named(name) if p.is_in(come)]
+        inside = set(todo)
+        while todo:
+            fresh = {p for element in todo.pop().needs for p in self.meeting(element) if p.is_in(come)} - inside
+            inside |= fresh
+            todo += fresh
+        return sorted(inside, key=PLACE)
 
     @functools.cached_property
     def users(self) -> dict[Member, list[str]]:

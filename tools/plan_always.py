@@ -13,6 +13,7 @@ of them stands in a line of a comparison: they are left out, and such needs are 
 from __future__ import annotations
 
 import collections
+import copy
 from collections.abc import Iterable
 
 from debian_index import NEED, no_collection
@@ -44,6 +45,13 @@ class Always:
                 for package in self.suites.brought.get(source, ()):
                     self.drop(self.suites.named(package.name))
                     self.drop(self.suites.clashes.get(package, ()))
+
+    def grown(self, sources: Mix) -> Always:
+        """The same, where these sources may come too."""
+        other = copy.copy(self)
+        other.sources, other.packages, other.count, other.texts = set(self.sources), set(self.packages), dict(self.count), {}
+        other.grow(sources)
+        return other
 
     def drop(self, packages: Iterable[Member]) -> None:
         """Takes packages out, and those with a need that no other meets."""

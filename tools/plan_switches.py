@@ -7,18 +7,19 @@ A name that may be absent from a mix must not be judged there. So all its packag
 versions, and beside them stands a package that can be installed exactly if the name is absent. The same is done for a name
 that nobody judges, beside a package without needs, and for packages of one name and of equal versions.
 
-What can be added to every installation (plan_always) is left out, and the needs that it meets are struck.
+What can be added to every installation (plan_always) is left out, and the needs that it meets are struck. So is what the groups do not bear on
+(plan_near).
 """
 
 from __future__ import annotations
 
-import collections
 import dataclasses
-from collections.abc import Iterable, Sequence
+from collections.abc import Iterable, Iterator, Sequence
 
 from debian_index import version_key
 from plan_always import Always, stanza_of
 from plan_mixes import NEW, Member, Mix
+from plan_near import Near
 
 SWITCH, RENAMED = "zz-plan-", "zz-was-"
 RESERVED = (SWITCH, RENAMED)
@@ -101,33 +102,35 @@ class Encoded:
 
 
 def encoded(always: Always, groups: Sequence[Group], come: Mix) -> Encoded:
-    """The index of groups that may come after the sources that have come."""
+    """The index of groups that may come after the sources that have come; `always` grows with these."""
     group_of = {source: place for place, group in enumerate(groups) for source in group}
-    always.grow(come | group_of.keys())
-    switched: dict[str, list[Switched]] = collections.defaultdict(list)
-    plain: list[Member] = []
+    always.grow(come)
+    always = always.grown(group_of.keys())
+    members = list(members_of(always, group_of, come))
+    near = Near(always, {member.package for member in members})
+    kept = near.kept(member.package for member in members if member.switches)
+    return put_together(always, [member for member in members if member.package in kept])
+
+
+def members_of(always: Always, group_of: dict[str, int], come: Mix) -> Iterator[Switched]:
+    """The packages that may be in the mixes, but for those that are always there."""
     for package in always.suites.packages:
         if package.state == NEW and package.source in group_of:
-            switched[package.name].append(Switched(package, bringer=group_of[package.source]))
+            yield Switched(package, bringer=group_of[package.source])
         elif package not in always.packages and package.is_in(come):
-            takers = frozenset(group_of[s] for s in package.takers if s in group_of)
-            if takers or package.name in always.suites.may_break:
-                switched[package.name].append(Switched(package, takers))
-            else:
-                plain.append(package)
-    return put_together(always, switched, plain)
+            yield Switched(package, frozenset(group_of[s] for s in package.takers if s in group_of))
 
 
-def put_together(always: Always, switched: dict[str, list[Switched]], plain: list[Member]) -> Encoded:
+def put_together(always: Always, members: list[Switched]) -> Encoded:
     home = always.suites.pool.home  # by which relations are read
     texts = [stanza(HOME, 0, architecture=home)] if home else []
-    for package in plain:
-        if package.name in switched:
-            switched[package.name].append(Switched(package))
+    switched: dict[str, list[Switched]] = {m.package.name: [] for m in members if m.switches or m.package.name in always.suites.may_break}
+    for member in members:
+        if member.package.name in switched:
+            switched[member.package.name].append(member)
         else:
-            texts.append(always.text(package))
-    live: set[int] = set()
-    for name, members in switched.items():
-        texts += texts_of_name(name, members, always)
-        live.update(place for member in members for place in member.switches)
+            texts.append(always.text(member.package))
+    live = {place for member in members for place in member.switches}
+    for name, mine in switched.items():
+        texts += texts_of_name(name, mine, always)
     return Encoded(texts, sorted(live))

@@ -30,7 +30,7 @@ class Always:
         named = collections.Counter(p.name for p in here)
         clashing = suites.clashes
         self.packages = {p for p in here if named[p.name] == 1 and all(other.state == NEW for other in clashing.get(p, ()))}
-        self.texts: dict[Member, str] = {}
+        self.texts: dict[Member, tuple[tuple[bool, ...], str]] = {}
         with no_collection():
             self.count = {element: sum(p in self.packages for p in suites.meeting(element)) for element in suites.owners}
         self.drop([p for element, count in self.count.items() if not count for p in suites.owners[element]])
@@ -49,7 +49,7 @@ class Always:
     def grown(self, sources: Mix) -> Always:
         """The same, where these sources may come too."""
         other = copy.copy(self)
-        other.sources, other.packages, other.count, other.texts = set(self.sources), set(self.packages), dict(self.count), {}
+        other.sources, other.packages, other.count = set(self.sources), set(self.packages), dict(self.count)
         other.grow(sources)
         return other
 
@@ -60,7 +60,6 @@ class Always:
             package = todo.pop()
             if package in self.packages:
                 self.packages.discard(package)
-                self.texts.clear()
                 for element in self.suites.users.get(package, ()):
                     self.count[element] -= 1
                     if not self.count[element]:
@@ -75,12 +74,14 @@ class Always:
         }
 
     def text(self, package: Member) -> str:
-        """Its stanza, without these needs."""
-        if package not in self.texts:
-            is_as_it_was = not any(self.count[element] for element in package.needs)
+        """Its stanza, without these needs; made anew only where other needs are struck."""
+        struck = tuple([bool(self.count[element]) for element in package.needs])
+        was, text = self.texts.get(package, (None, ""))
+        if was != struck:
             more = (package.version, package.architecture)
-            self.texts[package] = package.text if is_as_it_was else stanza_of(package.name, *more, self.relations_of(package))
-        return self.texts[package]
+            text = stanza_of(package.name, *more, self.relations_of(package)) if any(struck) else package.text
+            self.texts[package] = struck, text
+        return text
 
 
 def stanza_of(name: str, version: str, architecture: str, relations: dict[str, list[str]]) -> str:

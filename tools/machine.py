@@ -6,7 +6,7 @@ import re
 import typing
 
 from command import BadWords
-from debian_index import VALUE, Index, Package, read_bytes, read_packages, version_key
+from debian_index import VALUE, BadIndex, Index, Package, read_bytes, read_packages, version_key
 
 STATUS = re.compile(rb"\nStatus" + VALUE, re.I)
 
@@ -24,9 +24,24 @@ def is_installed(package: Package) -> bool:
     return len(words) == 3 and words[2] == "installed"
 
 
-def read_status(path: str) -> list[Package]:
-    """The installed packages of a status file of dpkg."""
-    found = [package for package in read_packages(path, read_bytes(path), is_strict=False) if is_installed(package)]
+def installed_by(path: str) -> list[Package]:
+    """The packages that are installed by a file."""
+    return [package for package in read_packages(path, read_bytes(path), is_strict=False) if is_installed(package)]
+
+
+def is_status(path: str) -> bool:
+    """Whether packages are installed by a file; by one that cannot be read there are none."""
+    try:
+        return bool(installed_by(path))
+    except BadIndex:
+        return False
+
+
+def read_status(path: str, index: str) -> list[Package]:
+    """The installed packages of a status file of dpkg; it is said if the index that is named behind it is one in its place."""
+    found = installed_by(path)
+    if not found and is_status(index):
+        raise BadWords("%s is no status file of dpkg, but %s is one: the status file comes before the index" % (path, index))
     if not found:
         raise BadWords("%s: no package is installed by it; is it a status file of dpkg, such as /var/lib/dpkg/status?" % path)
     return found

@@ -10,12 +10,12 @@ import itertools
 import os
 from collections.abc import Callable, Iterable, Sequence
 
-from broken_changes import Chain, Change, Changes, Clash, Reason, Strike, merged, pair_text
+from broken_changes import Change, Changes, Clash, Reason, Strike, merged, pair_text
 from broken_records import Found, Line, Step
 from built import NOT_BUILT, leave
 from command import Program, progress
 from debian_index import TEXT, Index
-from needs import Needs
+from needs import Chain, Needs
 
 MOST_CHANGES = 12  # of one cause
 MOST_TRIES = 40  # for the lines that a cause does not mend
@@ -28,7 +28,7 @@ def names_of(lines: Iterable[Line]) -> tuple[str, ...]:
 
 def all_broken(lines: Iterable[Line], names: Sequence[str]) -> str:
     """The text of an index in which just these lines, of one name or two, are broken."""
-    against = collections.defaultdict(list)
+    against: dict[str, list[str]] = collections.defaultdict(list)
     for one, *other in lines:
         against[one] += other
     nothing = names[-1] + "-none"  # it comes after the last of the names, so it is none of them

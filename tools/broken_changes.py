@@ -89,6 +89,20 @@ def names_in(element: str) -> set[str]:
     return {atom.name for atom in atoms_of(element)}
 
 
+def links_of(chain: Chain) -> list[Link]:
+    """The steps of a chain as dependencies, each with the package of the next step."""
+    steps = itertools.pairwise(chain)
+    return [(package, element, target) for (package, element, _), (target, _, _) in steps if element is not None]
+
+
+def gap_of(chain: Chain) -> tuple[Package, str]:
+    """The package at the end of a chain, and its element that nothing satisfies."""
+    package, element, _ = chain[-1]
+    if element is None:
+        raise AssertionError("a chain to a package, and to no gap: %s" % package)
+    return package, element
+
+
 def pair_text(clash: Clash) -> str:
     return "%s with %s" % clash
 
@@ -209,7 +223,7 @@ class Changes:
         """The reason of a name that dependencies leave dead: that of its newest version."""
         newest = max(self.new.named[name], key=lambda package: version_key(package.version))
         chain = needs.chain_from(newest, needs.dead)
-        owner, element, _ = chain[-1]
+        owner, element = gap_of(chain)
         change, thing = self.fate(owner, element)
         change = self.keep(change)
         change.things[thing] = True
@@ -261,8 +275,7 @@ class Changes:
             led = self.old_needs.names_leading_to(tuple(self.old.named.get(end.name, ())))
             why = needs.leading_to((end,))
             for name in [name for name in line if name in needs.names_leading_to((end,))][:1]:
-                steps = itertools.pairwise(needs.chain(name, why))
-                links += [(p, element, target) for (p, element, _), (target, _, _) in steps if p.name not in led][-1:]
+                links += [link for link in links_of(needs.chain(name, why)) if link[0].name not in led][-1:]
         return links
 
     @staticmethod
@@ -323,8 +336,8 @@ class Changes:
         ways = self.chains(line, clashes, needs)
         links: dict[tuple[Package, str], list[Link]] = collections.defaultdict(list)
         for way in ways:
-            for (package, element, _), (target, _, _) in itertools.pairwise(way):
-                links[package, element].append((package, element, target))
+            for link in links_of(way):
+                links[link[:2]].append(link)
         changed = sorted(filter(self.has_changed, links), key=lambda asked: self.asked_before(*asked))
         fresh = [asked for asked in changed if not self.asked_before(*asked)] if strike is not None else []
         mending = (asked for asked in changed if self.is_mended_without(line, links[asked], strike or {}))

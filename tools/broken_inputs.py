@@ -21,7 +21,6 @@ import sys
 import time
 import traceback
 from collections.abc import Callable, Iterator, Sequence
-from typing import BinaryIO
 
 import inputs
 from broken_causes import Asking, causes_of
@@ -31,7 +30,7 @@ from built import NOT_BUILT
 from command import BadWords, Program, progress
 from debian_index import BadIndex, Index
 
-OPENERS: dict[str, Callable[[str], BinaryIO]] = {".xz": lzma.open, ".gz": gzip.open, ".bz2": bz2.open}
+OPENERS: dict[str, Callable[[str], io.BufferedIOBase]] = {".xz": lzma.LZMAFile, ".gz": gzip.GzipFile, ".bz2": bz2.BZ2File}
 ARCHITECTURE = re.compile(rb"^Architecture:[ \t]*(\S+)", re.I | re.M)
 PIECE = 1 << 20
 BYTES_FOR_A_BYTE = 6  # of memory, for each byte of the two indexes of an architecture
@@ -85,7 +84,7 @@ def architecture_of(path: str) -> str | None:
             return None
         while text:
             cut = text.rfind(b"\n") + 1 or len(text)
-            found = (value.decode("utf-8", "replace") for value in ARCHITECTURE.findall(rest + text[:cut]))
+            found: Iterator[str] = (value.decode("utf-8", "replace") for value in ARCHITECTURE.findall(rest + text[:cut]))
             if name := next((name for name in found if name != "all"), None):
                 return name
             rest, text = text[cut:], file.read(PIECE)
@@ -106,7 +105,7 @@ class Inputs:
             if len(mine) > 2:
                 raise BadWords("%s has more than two indexes: %s" % (name, " ".join(mine)))
         pairs = [(name, *mine) for name, mine in sorted(self.places.items()) if len(mine) == 2]
-        self.pairs = [Pair(*pair, os.path.join(folder, "pair%d" % number)) for number, pair in enumerate(pairs)]
+        self.pairs = [Pair(name, old, new, os.path.join(folder, "pair%d" % number)) for number, (name, old, new) in enumerate(pairs)]
         self.alone = {name: os.path.basename(mine[0]) for name, mine in sorted(self.places.items()) if len(mine) == 1}
 
     def join_two(self) -> None:
@@ -176,7 +175,7 @@ def study_or_refusal(pair: Pair, job: Job) -> Study | Refused:
         with contextlib.redirect_stderr(said):
             found = study(pair, job)
     except SystemExit as end:
-        return Refused(pair.architecture, inputs.shown(said.getvalue().strip()), end.code)
+        return Refused(pair.architecture, inputs.shown(said.getvalue().strip()), end.code if isinstance(end.code, int) else NOT_BUILT)
     except (BadWords, BadIndex) as fault:
         return Refused(pair.architecture, inputs.shown(str(fault)), EMPTY)
     found.seconds = round(time.monotonic() - start, 1)
@@ -215,6 +214,13 @@ def work(pair: Pair, job: Job) -> None:
         pickle.dump(found, file)
 
 
+def number_of(process: multiprocessing.process.BaseProcess) -> int:
+    """The number that the system gave to a process that was started."""
+    if process.pid is None:
+        raise AssertionError("a process that was not started")
+    return process.pid
+
+
 class Crew:
     """The processes at work; those that are left when it ends are ended with what they started."""
 
@@ -228,13 +234,13 @@ class Crew:
         signal.pthread_sigmask(signal.SIG_BLOCK, ENDING)  # until it is known here, so that none is left
         process.start()
         with contextlib.suppress(OSError):  # the process does so too, whoever is first
-            os.setpgid(process.pid, process.pid)
+            os.setpgid(number_of(process), number_of(process))
         self.at_work[process] = pair
         signal.pthread_sigmask(signal.SIG_UNBLOCK, ENDING)
 
     def wait(self) -> Iterator[Study | Refused]:
         """What the processes have found that end next."""
-        ready = []
+        ready: Sequence[object] = []
         while not ready:  # a signal that comes just before a wait is seen after it
             ready = multiprocessing.connection.wait([process.sentinel for process in self.at_work], 1)
         for process in [process for process in self.at_work if process.sentinel in ready]:
@@ -243,12 +249,13 @@ class Crew:
             if process.exitcode:
                 sys.exit(NOT_BUILT)
             with open(os.path.join(pair.folder, "study"), "rb") as file:
-                yield pickle.load(file)
+                found: Study | Refused = pickle.load(file)
+            yield found
 
     def end(self) -> None:
         for process in self.at_work:
             with contextlib.suppress(ProcessLookupError):
-                os.killpg(process.pid, signal.SIGKILL)
+                os.killpg(number_of(process), signal.SIGKILL)
             process.join()
 
 

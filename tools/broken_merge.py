@@ -99,10 +99,10 @@ class Merge:
 
     def kept_sets(self, place: str, sets: SetsOf) -> SetsOf | None:
         """The sets less those of which each set of names may break."""
-        if not any(size > 2 for size in self.allowed.sizes()):
-            return sets
         every = self.studies[place].sets
-        problems = [kept for problem in sets.problems if (kept := self.kept_problem(place, problem, every))]
+        if not every or not any(size > 2 for size in self.allowed.sizes()):
+            return sets
+        problems = [left for problem in sets.problems if (left := self.kept_problem(place, problem, every))]
         kept = SetsOf(sum(len(problem.sets) for problem in problems), sum(problem.name_sets for problem in problems), problems)
         every.allowed += sets.name_sets - kept.name_sets
         return kept if problems else None
@@ -125,8 +125,9 @@ class Merge:
         """A cause that may be on some of its architectures alone is left out there."""
         for place in [place for place in self.parts[key] if key not in self.allowed_keys and self.may_be(key, place)]:
             self.free[place] |= self.lines[key].pop(place)
-            if sets := self.sets[key].pop(place, None):
-                self.studies[place].sets.allowed += sets.name_sets
+            sets, every = self.sets[key].pop(place, None), self.studies[place].sets
+            if sets and every:
+                every.allowed += sets.name_sets
             del self.parts[key][place]
 
     # The causes

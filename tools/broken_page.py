@@ -14,7 +14,7 @@ from collections.abc import Iterable, Sequence
 from broken_records import Cause, Change, Ended, Group, Report, SetsOf, Source
 from broken_text import (
     FRESH, KINDS, all_changes, counted, in_order, made_text, mended_text, number_of, number_rows, open_lines, problem_lines, sets_remarks,
-    sign_of, title_of, where,
+    sign_of, title_of, where, with_changes,
 )
 from built import HERE
 from drawing import dot_of, svgs
@@ -105,8 +105,9 @@ class Page:
         since = self.report.since
         if not since:
             return ""
-        rows = [self.changed(c.since.state, c, c.since, "+") for state in FRESH for c in self.causes if c.since.state == state]
-        rows += [self.changed("shrunk", c, c.since, "-") for c in self.causes if c.since.gone or c.since.gone_sets]
+        causes = with_changes(self.causes)
+        rows = [self.changed(state, cause, change, "+") for state in FRESH for cause, change in causes if change.state == state]
+        rows += [self.changed("shrunk", cause, change, "-") for cause, change in causes if change.gone or change.gone_sets]
         rows += [self.changed("ended", ended, ended.since, "-", link=False) for ended in since.ended]
         told = [tag("p", esc("%s was reported then and is not now." % name), "warn") for name in since.not_this_time]
         told.append(tag("table", "".join(rows), "since") if rows else tag("p", "Nothing is new, and nothing is gone."))

@@ -446,14 +446,14 @@ def record_of(kind: typing.Any, data: typing.Any) -> typing.Any:
     return data
 
 
-def as_json(report: Report, **how: typing.Any) -> str:
+def as_json(report: Report) -> str:
     """The report as JSON; bytes that are no UTF-8 become the sign for that."""
-    return json.dumps(report, default=vars, ensure_ascii=False, **how).encode(**TEXT).decode("utf-8", "replace")
+    return json.dumps(report, default=vars, ensure_ascii=False, separators=(",", ":")).encode(**TEXT).decode("utf-8", "replace")
 
 
 def write_report(path: str, report: Report) -> None:
     with open(path, "w", encoding="utf-8") as file:
-        file.write(as_json(report, separators=(",", ":")) + "\n")
+        file.write(as_json(report) + "\n")
 
 
 def read_report(path: str) -> Report:
@@ -469,4 +469,5 @@ def read_report(path: str) -> Report:
         wrong = next(faults(data, json.load(file)), None)
     if wrong:
         raise BadWords("%s: no report of the format %s: %s" % (path, FORMAT, wrong))
-    return record_of(Report, data)
+    report: Report = record_of(Report, data)
+    return report

@@ -50,12 +50,19 @@ class SetAsking(Asking):
         element = " | ".join(dict.fromkeys("%s (= %s)" % (name, p.version) for p in packages))
         return element if set(index.meeting(element)) == set(packages) else None
 
+    def element(self, index: Index, name: str) -> str:
+        """That element of a name that has one: others are open, and nothing is asked of them."""
+        element = self.exactly(index, name)
+        if element is None:
+            raise AssertionError("no element names this alone: %s" % name)
+        return element
+
     def standing(self, lines: Sequence[Line], index: Index | None, more: str = "") -> str:
         """Stanzas of names that stand for the lines of three names and more; without an index they depend on nothing."""
         text = []
         for number, line in enumerate(lines):
             if len(line) > 2 or more:
-                needs = "Depends: " + ", ".join(self.exactly(index, name) for name in line) + "\n" if index else ""
+                needs = "Depends: " + ", ".join(self.element(index, name) for name in line) + "\n" if index else ""
                 text.append("Package: %s-%d\nVersion: 1\n%s%s" % (self.stem, number, needs, more))
         return "\n" + "\n".join(text)
 
@@ -63,13 +70,15 @@ class SetAsking(Asking):
         """Which lines `compare` prints of these two texts, and which it leaves open."""
         stands = {"%s-%d" % (self.stem, number): line for number, line in enumerate(lines)}
         _, broken, left = self.compare(self.keep("before", old), self.keep("after", new))
-        return tuple({stands.get(line[0], line) if len(line) == 1 else line for line in some} for some in (broken, left))
+        lost, still = ({stands.get(line[0], line) if len(line) == 1 else line for line in some} for some in (broken, left))
+        return lost, still
 
     def are_lost(self, lines: Sequence[Line], old: Index, new: Index) -> tuple[set[Line], set[Line]]:
         """Which of the lines NEW has lost, and which are open."""
         names = names_of(lines)
-        texts = [index.slice(names) + self.standing(lines, index) for index in (old, new)]
-        return tuple(some.intersection(lines) for some in self.lost(lines, *texts))
+        before, after = (index.slice(names) + self.standing(lines, index) for index in (old, new))
+        lost, left = self.lost(lines, before, after)
+        return lost.intersection(lines), left.intersection(lines)
 
     def well(self, lines: Iterable[Line], index: Index, strike: Strike) -> set[Line]:
         """All lines have three names and more, and it is confirmed that they are broken: then so are those that stand for them in NEW."""
@@ -111,7 +120,7 @@ class Naming:
     def __init__(self, kernel: Kernel, index: Index):
         self.kernel, self.index = kernel, index
         self.package = {(p.name, p.version): p for p in index.packages}
-        self.name = functools.lru_cache(None)(self.name)
+        self.name = functools.lru_cache(None)(self.most_wanted)
 
     def named_against(self, mine: int, others: Iterable[int]) -> set[str]:
         """The names of a class with a relation against another, and those of it that these are against."""
@@ -123,7 +132,7 @@ class Naming:
                 found |= {name for name, version in ends if (name, version) not in those and ends & those}
         return found & {name for name, _ in self.kernel.classes[mine]}
 
-    def name(self, mine: int) -> str:
+    def most_wanted(self, mine: int) -> str:
         """The most wanted name of those with a conflict, or of all members."""
         names = self.named_against(mine, self.kernel.against[mine]) or {name for name, _ in self.kernel.classes[mine]}
         return min(names, key=lambda name: (-self.index.asked[name], name))
@@ -137,7 +146,7 @@ class SetSearch:
         kernels = [Kernel(program.ask("kernel", index.path)[1]) for index in (old, new)]
         self.found, self.naming = Lost(*kernels), Naming(kernels[1], new)
         self.asking = SetAsking(program, folder, (old, new))
-        self.name_of = functools.lru_cache(None)(self.name_of)
+        self.name_of = functools.lru_cache(None)(self.most_asked)
         self.sets = self.found.sets()
         self.lines = {kinds: self.line_of(kinds) for kinds in self.sets}
         self.open: list[Kinds] = []
@@ -145,7 +154,7 @@ class SetSearch:
     def line_of(self, kinds: Kinds) -> Line:
         return tuple(sorted(map(self.name_of, kinds)))
 
-    def name_of(self, kind: int) -> str:
+    def most_asked(self, kind: int) -> str:
         """The name of a kind that most dependencies of NEW name, among those that an element can name alone."""
         names = self.found.members[kind]
         return max(list(filter(self.fits, names)) or names, key=lambda name: self.new.asked[name])
@@ -159,7 +168,7 @@ class SetSearch:
     def check_small(self, broken: set[Line], left: set[Line]) -> None:
         """The names and pairs that the rule finds have to be the lines of `compare`, but for what it leaves open."""
         members = self.found.members
-        mine = {(name,) for kind in self.found.singles() for name in members[kind]}
+        mine: set[Line] = {(name,) for kind in self.found.singles() for name in members[kind]}
         for kind, other in self.found.pairs():
             mine |= {tuple(sorted(pair)) for pair in itertools.product(members[kind], members[other])}
         if wrong := sorted((mine ^ broken) - left):
@@ -185,7 +194,8 @@ class SetSearch:
 
     def causes(self) -> tuple[list[Found], set[Kinds]]:
         """The changes with the sets that they mend, and the sets without one."""
-        rest, found, in_vain = set(self.sets), {}, 0
+        rest, in_vain = set(self.sets), 0
+        found: dict[str, tuple[Cause, set[Kinds], Search]] = {}
         for _ in range(MOST_ROUNDS):
             shown = self.shown(rest)
             if not shown or in_vain == MOST_IN_VAIN:

@@ -47,7 +47,7 @@ class Comparing:
         self.report, self.earlier, self.both = report, earlier, both
         self.now, self.then = keys_by_line(report), keys_by_line(earlier)
         self.common = [place for place in self.now if place in self.then]
-        self.allowed = {one.architecture: set(map(tuple, one.allowed_lines)) for one in report.architectures}
+        self.allowed = {one.architecture: {tuple(line) for line in one.allowed_lines} for one in report.architectures}
         self.new: dict[str, OnLines] = collections.defaultdict(dict)
         self.gone: dict[str, OnLines] = collections.defaultdict(dict)
         self.new_sets: dict[str, dict[str, int]] = collections.defaultdict(dict)

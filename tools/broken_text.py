@@ -5,7 +5,7 @@ from __future__ import annotations
 import textwrap
 from collections.abc import Iterable, Iterator, Mapping, Sequence
 
-from broken_records import Architecture, Cause, Change, Group, Line, Off, Problem, Report, Side, Source
+from broken_records import Architecture, Cause, Change, Group, Line, Off, Problem, Report, Side, Since, Source
 
 WIDTH = 78
 KINDS = (
@@ -27,6 +27,11 @@ def number_of(cause: Cause, place: str, what: str) -> int:
     """Of how many names, pairs or sets a cause is on an architecture."""
     on = cause.on.get(place)
     return 0 if not on else on.names if what == "names" else on.pairs if what == "pairs" else on.name_sets
+
+
+def with_changes(causes: Iterable[Cause]) -> list[tuple[Cause, Change]]:
+    """Causes, each with what changed in it since the earlier report."""
+    return [(cause, cause.since) for cause in causes if cause.since]
 
 
 def where(places: Iterable[str], every: Sequence[str]) -> str:
@@ -175,10 +180,11 @@ def made_text(report: Report) -> str:
 
 
 def wrapped(text: str, indent: str = "", first: str | None = None, lines: int | None = None) -> list[str]:
-    return textwrap.wrap(
-        text, WIDTH, initial_indent=indent if first is None else first, subsequent_indent=indent,
+    wrapper = textwrap.TextWrapper(
+        WIDTH, initial_indent=indent if first is None else first, subsequent_indent=indent,
         break_long_words=False, break_on_hyphens=False, max_lines=lines, placeholder=" ..",
     )
+    return wrapper.wrap(text)
 
 
 class Text:
@@ -202,12 +208,12 @@ class Text:
     def text(self) -> str:
         self.head()
         if self.report.since:
-            self.since()
+            self.since(self.report.since)
         shown: dict[str, Cause] = {}
         for what, words in KINDS:
             shown.update({cause.key: cause for cause in self.table(what, words)})
         if self.report.since:
-            shown = {cause.key: cause for cause in self.causes if cause.since.state in FRESH}
+            shown = {cause.key: cause for cause, change in with_changes(self.causes) if change.state in FRESH}
         self.tell_causes(list(shown.values()))
         self.undecided()
         return "\n".join(self.out) + "\n"
@@ -238,21 +244,20 @@ class Text:
 
     # What is new
 
-    def since(self) -> None:
-        since = self.report.since
+    def since(self, since: Since) -> None:
         self.heading("Since %s" % since.made)
         for name in since.not_this_time:
             self.say("  %s was reported then and is not now" % name)
         before = len(self.out)
         for state in FRESH:
-            for cause in self.report.causes:
-                if cause.since.state == state:
-                    self.changed(state + (" (allowed)" if cause.allowed else ""), cause.key, cause.since, "+", cause.bugs)
-        for cause in self.report.causes:
-            if cause.since.gone or cause.since.gone_sets:
-                self.changed("shrunk", cause.key, cause.since, "-", cause.bugs)
-        for cause in since.ended:
-            self.changed("ended", cause.key, cause.since, "-", cause.bugs)
+            for cause, change in with_changes(self.report.causes):
+                if change.state == state:
+                    self.changed(state + (" (allowed)" if cause.allowed else ""), cause.key, change, "+", cause.bugs)
+        for cause, change in with_changes(self.report.causes):
+            if change.gone or change.gone_sets:
+                self.changed("shrunk", cause.key, change, "-", cause.bugs)
+        for ended in since.ended:
+            self.changed("ended", ended.key, ended.since, "-", ended.bugs)
         if len(self.out) == before:
             self.say("  nothing is new, and nothing is gone")
         if since.moved:

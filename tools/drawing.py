@@ -84,8 +84,8 @@ class Drawing:
         name = self.draw("x%d" % len(self.lines), values)
         self.arrow(near, name, {"style": "dashed", "color": color, "fontcolor": color, "label": label})
 
-    def steps(self) -> list[tuple[Step, list[Step]]]:
-        """Each dependency once, with all that the ways take to satisfy it; of many ways that end in a gap only the first."""
+    def steps(self) -> list[tuple[Step, str, list[Step]]]:
+        """Each dependency once, with its element and all that the ways take to satisfy it; of many ways that end in a gap only the first."""
         gaps = [way for way in self.why.ways if way[-1].needs][MOST_GAPS:]
         taken: dict[tuple[str, str, str], tuple[Step, dict[tuple[str, str], Step]]] = {}
         for way in [way for way in self.why.ways if way not in gaps][:MOST_WAYS]:
@@ -95,17 +95,17 @@ class Drawing:
                     ends.update({(after.package, after.version): after} if after else {})
                 else:
                     self.node(step)
-        return [(step, list(ends.values())) for step, ends in taken.values()]
+        return [(step, element, list(ends.values())) for (_, _, element), (step, ends) in taken.items()]
 
-    def need(self, step: Step, taken: Sequence[Step]) -> None:
+    def need(self, step: Step, element: str, taken: Sequence[Step]) -> None:
         here, color = self.node(step), NEW if step.new else PLAIN
         for place, after in enumerate(taken):
-            label = relation(step.needs, after.package) if not place else "or"
+            label = relation(element, after.package) if not place else "or"
             label = "new" + ("\n" + label if label else "") if step.new and not place else label
             width = {"penwidth": "1.8"} if step.new else {}
             self.arrow(here, self.node(after), {"label": " " + label.replace("\n", "\n "), "color": color, "fontcolor": color, **width})
         if not taken:
-            self.gap(here, step, color)
+            self.gap(here, step, element, color)
         self.notes(here, step, {"%s %s" % (after.package, after.version) for after in taken})
 
     def notes(self, here: str, step: Step, drawn: set[str]) -> None:
@@ -116,8 +116,8 @@ class Drawing:
         if step.lost:
             self.note(here, short(step.lost), OLD, "in " + self.old)
 
-    def gap(self, here: str, step: Step, color: str) -> None:
-        name = self.draw("g%d" % len(self.lines), {**RED_BOX, "label": "nothing satisfies\n%s" % step.needs})
+    def gap(self, here: str, step: Step, element: str, color: str) -> None:
+        name = self.draw("g%d" % len(self.lines), {**RED_BOX, "label": "nothing satisfies\n%s" % element})
         self.arrow(here, name, {"color": color, **({"penwidth": "1.8", "label": " new", "fontcolor": color} if step.new else {})})
 
     def conflict(self, place: int, conflict: Conflict) -> None:
@@ -136,8 +136,8 @@ class Drawing:
             self.lines.append("  {rank=same; %s -> k%d [%s]; k%d -> %s [%s];}" % (one, place, back, place, other, tee))
 
     def dot(self) -> str:
-        for step, taken in self.steps():
-            self.need(step, taken)
+        for step, element, taken in self.steps():
+            self.need(step, element, taken)
         for place, conflict in enumerate(self.why.conflicts[:MOST_CONFLICTS]):
             self.conflict(place, conflict)
         more = len([way for way in self.why.ways if way[-1].needs]) - MOST_GAPS

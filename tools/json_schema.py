@@ -9,6 +9,7 @@ import re
 from collections.abc import Callable, Iterator
 from typing import Any
 
+Schema = dict[str, Any]  # by keywords; a value and what a keyword wants of it are any JSON
 TYPES: dict[str, tuple[type, ...]] = {
     "object": (dict,), "array": (list, tuple), "string": (str,), "integer": (int,), "number": (int, float), "boolean": (bool,), "null": (type(None),),
 }
@@ -35,7 +36,7 @@ TESTS: dict[str, Callable[[Any, Any], bool]] = {
 }
 
 
-def inner(value: Any, schema: dict, key: str) -> Iterator[tuple[str, Any, dict]]:
+def inner(value: Any, schema: Schema, key: str) -> Iterator[tuple[str, Any, Schema]]:
     """The parts of a value that a keyword gives a schema to, as (where, part, schema)."""
     wanted = schema[key]
     if key == "properties" and isinstance(value, dict):
@@ -52,7 +53,7 @@ def inner(value: Any, schema: dict, key: str) -> Iterator[tuple[str, Any, dict]]
 INNER = {"properties", "additionalProperties", "prefixItems", "items"}
 
 
-def faults(value: Any, schema: dict, root: dict | None = None, where: str = "") -> Iterator[str]:
+def faults(value: Any, schema: Schema, root: Schema | None = None, where: str = "") -> Iterator[str]:
     """What of a value is not as the schema wants it, with its place."""
     root = root or schema
     for key, wanted in schema.items():

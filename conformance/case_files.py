@@ -9,7 +9,7 @@ import sys
 import typing
 
 sys.path.insert(0, os.path.join(os.path.dirname(os.path.realpath(__file__)), "..", "tools"))
-from built import chosen
+from coinst_tools.built import chosen
 
 
 @dataclasses.dataclass

@@ -9,7 +9,7 @@ import tempfile
 sys.dont_write_bytecode = True
 HERE = os.path.dirname(os.path.realpath(__file__))
 sys.path.insert(0, os.path.join(HERE, "..", "tools"))
-from built import BUILT
+from coinst_tools.built import BUILT
 from pairs_judge import debian_coinst
 
 WRITER = os.path.join(HERE, "..", "tools", "log_to_dimacs.py")

@@ -17,9 +17,9 @@ import sys
 sys.dont_write_bytecode = True
 sys.path.insert(1, os.path.join(os.path.dirname(os.path.realpath(__file__)), "..", "tools"))
 import dpkg
-from built import require
-from command import HERE, parser_of, run
-from debian_index import FIELD, packages_of
+from coinst_tools.built import HERE, require
+from coinst_tools.command import parser_of, run
+from coinst_tools.debian_index import FIELD, packages_of
 
 RELATIONS = {"pre-depends", "depends", "conflicts", "breaks", "provides", "recommends", "suggests", "enhances", "replaces"}
 RESTRICTION = re.compile(r"\(\s*(?:<<|<=|=|>=|>>|<|>)\s*([^\s)]+)\s*\)")

@@ -13,7 +13,7 @@ import sys
 
 sys.dont_write_bytecode = True
 sys.path.insert(1, os.path.join(os.path.dirname(os.path.realpath(__file__)), "..", "tools"))
-from built import BUILT, require
+from coinst_tools.built import BUILT, require
 
 
 def run(words):

@@ -3,7 +3,7 @@
 
     dev/count_unmet.py INDEX
 
-It shares no code with the program, whose count `bench/suite INDEX` prints; it reads by tools/debian_index.py, as other scripts do.
+It shares no code with the program, whose count `bench/suite INDEX` prints; it reads by tools/coinst_tools/debian_index.py, as other scripts do.
 """
 
 import os
@@ -11,8 +11,8 @@ import sys
 
 sys.dont_write_bytecode = True
 sys.path.insert(1, os.path.join(os.path.dirname(os.path.realpath(__file__)), "..", "tools"))
-from command import parser_of, run
-from debian_index import Index
+from coinst_tools.command import parser_of, run
+from coinst_tools.debian_index import Index
 
 
 def main():

@@ -18,7 +18,7 @@ import tempfile
 
 sys.dont_write_bytecode = True
 sys.path.insert(1, os.path.join(os.path.dirname(os.path.realpath(__file__)), "..", "tools"))
-from built import BUILT, leave, require
+from coinst_tools.built import BUILT, leave, require
 from fail_memory import CASES, FILES
 
 ERRORS = {

@@ -17,7 +17,7 @@ import tempfile
 
 sys.dont_write_bytecode = True
 sys.path.insert(1, os.path.join(os.path.dirname(os.path.realpath(__file__)), "..", "tools"))
-from built import BUILT, require
+from coinst_tools.built import BUILT, require
 
 # Stands before the allocator of glibc, counts the calls into the file COUNT, and lets some fail.
 SHIM = r"""

@@ -14,7 +14,7 @@ import sys
 sys.dont_write_bytecode = True
 sys.path.insert(1, os.path.join(os.path.dirname(os.path.realpath(__file__)), "..", "tools"))
 import dpkg
-from command import parser_of, run
+from coinst_tools.command import parser_of, run
 
 TARGET = os.path.join(os.path.dirname(os.path.abspath(__file__)), "../crates/tool_versions")
 

@@ -20,15 +20,15 @@ from __future__ import annotations
 import sys
 
 sys.dont_write_bytecode = True
-from quiet import until_run
+from coinst_tools.quiet import until_run
 
 until_run()
 import argparse
 import os
 import typing
 
-from command import parser_of, run
-from debian_index import version_key
+from coinst_tools.command import parser_of, run
+from coinst_tools.debian_index import version_key
 
 
 Clause = typing.List[int]  # literals, as DIMACS has them

@@ -6,6 +6,7 @@ A cause is one change, or several that mend only together. Each line stands unde
 from __future__ import annotations
 
 import collections
+import contextlib
 import itertools
 import os
 from collections.abc import Callable, Iterable, Sequence
@@ -45,6 +46,8 @@ class Asking:
 
     def keep(self, name: str, text: str) -> str:
         path = os.path.join(self.folder, name)
+        with contextlib.suppress(FileNotFoundError):
+            os.unlink(path)  # to write over a file waits until what it had is on the disk
         with open(path, "w", **TEXT) as file:
             self.written += file.write(text)
         return path
@@ -60,8 +63,8 @@ class Asking:
     def explain(self, index: Index, names: Line, strike: Strike | None = None) -> list[Clash]:
         """The conflicts that keep the names apart; none if there are none or the program leaves it open."""
         answer = self.program.ask("explain", self.keep("slice", index.slice(names, strike)), *names)[1]
-        package = {(p.name, p.version): p for p in index.reach(names)}
-        return [(package[w[1], w[2]], package[w[3], w[4]]) for w in answer if w[0] in ("clash", "clash-open")]
+        clashes = [words[1:] for words in answer if words[0] in ("clash", "clash-open")]
+        return [(index.package(*words[:2]), index.package(*words[2:])) for words in clashes]
 
     def well(self, lines: Iterable[Line], index: Index, strike: Strike) -> set[Line]:
         """Which of the lines are well in the slice once this is taken out, if it is known that they are broken before."""

@@ -17,17 +17,18 @@ import functools
 import itertools
 import math
 import re
+import typing
 from collections.abc import Iterable, Sequence
 
 from .broken_causes import Asking, Cause, Search, names_of
 from .broken_changes import Strike
 from .broken_records import Found, Line, Problem, Sets, SetsOf, Side
 from .command import Program, progress
-from .debian_index import AGAINST, Index
+from .debian_index import AGAINST, Index, Package
 from .lost_sets import Bits, Kernel, Kinds, Lost, TooMany, bits_of
 
 MOST_ROUNDS, MOST_IN_VAIN = 40, 3  # of looking for causes, and of these one after the other that find none
-AT_ONCE = 500  # smaller sets that are tried in one run
+AT_ONCE = 200  # sets that conflict in one run, each with each
 SHOWN = 4  # names of a side that are written out
 
 
@@ -95,23 +96,25 @@ class SetAsking(Asking):
         found, left = set(), set()
         apart = "Provides: %s\nConflicts: %s\n" % (self.stem, self.stem)
         for some in (lines[start : start + AT_ONCE] for start in range(0, len(lines), AT_ONCE)):
-            bare, new = self.standing(some, None, apart), index.slice(names_of(some)) + self.standing(some, index, apart)
+            bare, new = self.standing(some, None, apart), index.slice(names_of(some)) + self.standing(some, index)
             broken, still = self.lost(some, bare, new)
             found |= broken.intersection(some)
             left |= still.intersection(some)
         return found, left
 
 
-def smaller(line: Line) -> Iterable[Line]:
+T = typing.TypeVar("T")
+
+
+def smaller(line: tuple[T, ...]) -> Iterable[tuple[T, ...]]:
     return itertools.combinations(line, len(line) - 1)
 
 
 def has_all(old: Index, new: Index) -> bool:
     """Whether NEW has each package of OLD, of the same version and with the same relations: then nothing can be lost."""
-    there = {(p.name, p.version): p for p in new.packages}
-    if old.home != new.home or not all((p.name, p.version) in there for p in old.packages):
+    if old.home != new.home or not all(any(p.version == q.version for q in new.named.get(p.name, ())) for p in old.packages):
         return False
-    return all(p.relations == there[p.name, p.version].relations for p in old.packages)
+    return all(p.relations == q.relations for p in old.packages for q in new.named[p.name] if p.version == q.version)
 
 
 class Naming:
@@ -119,15 +122,14 @@ class Naming:
 
     def __init__(self, kernel: Kernel, index: Index):
         self.kernel, self.index = kernel, index
-        self.package = {(p.name, p.version): p for p in index.packages}
         self.name = functools.lru_cache(None)(self.most_wanted)
 
     def named_against(self, mine: int, others: Iterable[int]) -> set[str]:
         """The names of a class with a relation against another, and those of it that these are against."""
         found, those = set(), {member for other in others for member in self.kernel.classes[other]}
         for declarer in [*self.kernel.classes[mine], *those]:
-            package = self.package[declarer]
-            for met in {met for kind in AGAINST for e in package.relations.get(kind, ()) for met in self.index.meeting(e)}:
+            relations = self.index.package(*declarer).relations
+            for met in {met for kind in AGAINST for e in relations.get(kind, ()) for met in self.index.meeting(e)}:
                 ends = {declarer, (met.name, met.version)}
                 found |= {name for name, version in ends if (name, version) not in those and ends & those}
         return found & {name for name, _ in self.kernel.classes[mine]}
@@ -179,7 +181,7 @@ class SetSearch:
         self.open = [kinds for kinds, line in self.lines.items() if not all(map(self.fits, line))]
         lines = [line for kinds, line in self.lines.items() if kinds not in self.open]
         broken, left = self.asking.are_lost(lines, self.old, self.new) if lines else (set(), set())
-        dead, unsure = self.asking.dead(sorted({small for line in lines if len(line) > 3 for small in smaller(line)}), self.new)
+        dead, unsure = self.dead_among({small for kinds in self.sets if len(kinds) > 3 and kinds not in self.open for small in smaller(kinds)})
         for kinds, line in self.lines.items():
             if kinds in self.open:
                 continue
@@ -189,6 +191,14 @@ class SetSearch:
                 raise AssertionError("the program does not confirm: %s" % " ".join(line))
         for kinds in self.open:
             del self.sets[kinds]
+
+    def dead_among(self, sets: Iterable[Kinds]) -> tuple[set[Line], set[Line]]:
+        """Which of the sets NEW cannot install, and which are open: tried in groups, since with a group all in it can be installed."""
+        groups: dict[Line, list[Kinds]] = collections.defaultdict(list)
+        for kinds, some in self.found.new.grouped(sorted(sets)):
+            groups[self.line_of(kinds)] += some
+        dead, unsure = self.asking.dead(sorted(groups), self.new)
+        return self.asking.dead(sorted({self.line_of(kinds) for group in dead | unsure for kinds in groups[group]}), self.new)
 
     # Causes
 
@@ -237,10 +247,29 @@ class SetSearch:
 
     def mended(self, cause: Cause, rest: set[Kinds]) -> set[Kinds]:
         """All of the sets that are well without the cause, by the program."""
-        lines = {self.lines[kinds]: kinds for kinds in rest}
+        led = self.reaching(cause.strike())
+        lines = {self.lines[kinds]: kinds for kinds in rest if not led.isdisjoint(self.lines[kinds])}
         progress("trying a cause on %d sets: %s" % (len(lines), cause.key()))
-        mended = self.asking.well(sorted(lines), self.new, cause.strike()) if cause.strike() else set()
+        mended = self.asking.well(sorted(lines), self.new, cause.strike()) if lines else set()
         return {lines[line] for line in mended}
+
+    @functools.cached_property
+    def users(self) -> dict[Package, list[Package]]:
+        """Who has an element that a package meets, among all that the sets reach in NEW."""
+        users: dict[Package, list[Package]] = collections.defaultdict(list)
+        for package in self.new.reach(names_of(self.lines.values())):
+            for met in self.new.next(package):
+                users[met].append(package)
+        return users
+
+    def reaching(self, goals: Iterable[Package]) -> set[str]:
+        """The names that reach one of these packages: without one, what is struck there cannot mend a set."""
+        inside, todo = set(goals), list(goals)
+        while todo:
+            fresh = [package for package in self.users.get(todo.pop(), ()) if package not in inside]
+            inside.update(fresh)
+            todo += fresh
+        return {package.name for package in inside}
 
     def weight(self, kinds: Kinds) -> tuple[list[int], Line]:
         """How much the names of a set are asked for, the least of them first, so that no set is shown for one name alone."""

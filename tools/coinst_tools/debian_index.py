@@ -15,7 +15,6 @@ import functools
 import gc
 import importlib
 import io
-import itertools
 import operator
 import os
 import re
@@ -162,6 +161,12 @@ def elements_in(value: bytes) -> tuple[str, ...]:
     return tuple(elements_of(text_of(value).strip()))
 
 
+@functools.lru_cache(None)
+def source_in(value: bytes) -> str:
+    """The source that a Source field names, by its bytes; many stanzas share them."""
+    return sys.intern(re.split(r"[\s(]", text_of(value).strip(), 1)[0])
+
+
 class Package:
     """What a stanza says of its package, as far as it bears on what can be installed; what `READ` names is read once it is asked for."""
 
@@ -213,8 +218,8 @@ class Package:
         return [element for kind in NEED for element in self.relations.get(kind, ())]
 
     def read_source(self) -> str:
-        named = re.split(r"[\s(]", self.value(SOURCE) or "", 1)[0]
-        return sys.intern(named) or self.name
+        found = SOURCE.search(self.data, self.start - 1, self.end)
+        return (source_in(found[1]) if found else "") or self.name
 
     def read_source_version(self) -> str:
         named = re.match(r"[^\s(]*\s*\(\s*([^\s)]+)", self.value(SOURCE) or "")
@@ -249,15 +254,14 @@ def read_packages(path: str, data: bytes, kind: type[Package] = Package, is_stri
     """
     packages: list[Package] = []
     start, match = 1, HEAD.match
-    cuts = (blank.span() for blank in BLANK_LINE.finditer(data))
-    for end, after in itertools.chain(cuts, [(len(data), len(data))]):
+    cuts = [blank.span() for blank in BLANK_LINE.finditer(data)]
+    for end, after in [*cuts, (len(data), len(data))]:
         if found := match(data, start, end):  # as all stanzas of Debian begin
-            name, version = found.groups()
+            name, version = map(bytes.decode, found.groups())
         else:
             first = FIRST_LINE.match(data, start, end)
             start = first.end() if first else start
-            name, version = ((field.findall(data, start - 1, end) or [b""])[-1] for field in (NAME, VERSION))
-        name, version = name.decode("utf-8", "surrogateescape").strip(), version.decode("utf-8", "surrogateescape").strip()
+            name, version = (text_of((field.findall(data, start - 1, end) or [b""])[-1]).strip() for field in (NAME, VERSION))
         if name and version:
             packages.append(kind(data, start, end, len(packages), name, version))
         elif is_strict and text_of(data[start:end]).strip():
@@ -276,6 +280,29 @@ def packages_of(path: str, kind: type[Package] = Package) -> list[Package]:
         return read_packages(path, read_bytes(path), kind)
 
 
+def beside(packages: typing.Iterable[Package]) -> typing.Iterator[list[Package]]:
+    """Runs of packages that stand one after the other in a file."""
+    run: list[Package] = []
+    for package in packages:
+        if run and (package.data is not run[-1].data or package.start != run[-1].end + 2):
+            yield run
+            run = []
+        run.append(package)
+    if run:
+        yield run
+
+
+def sources_in(packages: typing.Iterable[Package]) -> typing.Iterator[tuple[str, Package]]:
+    """Each package and its source; a search goes through a whole run, which takes a third of the time of one for each stanza."""
+    for run in beside(packages):
+        fields = SOURCE.finditer(run[0].data, run[0].start - 1, run[-1].end)
+        place, value = next(((field.start(), field[1]) for field in fields), (run[-1].end, b""))
+        for package in run:
+            yield (source_in(value) if place < package.end else "") or package.name, package
+            while place < package.end:  # the first field of a stanza counts
+                place, value = next(((field.start(), field[1]) for field in fields), (run[-1].end, b""))
+
+
 class Offers(typing.Mapping[str, typing.List[Offer]]):
     """Who offers a name, as (package, version or None), in file order: those that bear it, and those that provide it."""
 
@@ -283,11 +310,17 @@ class Offers(typing.Mapping[str, typing.List[Offer]]):
         self.named, self.provided = named, provided
 
     def __getitem__(self, name: str) -> list[Offer]:
-        if name not in self:
+        found: list[Offer] | None = self.get(name)
+        if found is None:
             raise KeyError(name)
-        own: list[Offer] = [(package, package.version) for package in self.named.get(name, ())]
-        more = self.provided.get(name, [])
-        return sorted(own + more, key=lambda offer: offer[0].place) if more and own else own or more
+        return found
+
+    def get(self, name: str, default: typing.Any = None) -> typing.Any:
+        packages, more = self.named.get(name), self.provided.get(name)
+        if packages is None and more is None:
+            return default
+        own: list[Offer] = [(package, package.version) for package in packages or ()]
+        return sorted(own + more, key=lambda offer: int(offer[0].place)) if more and own else own or more or []
 
     def __contains__(self, name: object) -> bool:
         return name in self.named or name in self.provided
@@ -339,8 +372,8 @@ class Index:
     def built_from(self) -> dict[str, list[Package]]:
         table: dict[str, list[Package]] = collections.defaultdict(list)
         with no_collection():
-            for package in self.packages:
-                table[package.source].append(package)
+            for source, package in sources_in(self.packages):
+                table[source].append(package)
         return table
 
     @functools.cached_property
@@ -351,7 +384,11 @@ class Index:
     def asked(self) -> collections.Counter[str]:
         """How many alternatives of dependencies name each name."""
         values = b",".join(DEPENDS.findall(self.packages[0].data)) if self.packages else b""
-        return collections.Counter({text_of(name): count for name, count in collections.Counter(ASKED.findall(values)).items()})
+        counts: collections.Counter[bytes] = collections.Counter()
+        for element, count in collections.Counter(values.split(b",")).items():  # many stanzas have the same
+            for name in ASKED.findall(element):
+                counts[name] += count
+        return collections.Counter({text_of(name): count for name, count in counts.items()})
 
     def atoms(self, element: str) -> list[Atom]:
         try:
@@ -360,7 +397,7 @@ class Index:
             raise BadIndex("%s: %s" % (self.path, fault)) from None
 
     def is_of_home(self, atom: Atom) -> bool:
-        return atom.qualifier in (None, "any", "native", "all", self.home)
+        return atom.qualifier is None or atom.qualifier in ("any", "native", "all", self.home)
 
     def meeting_atom(self, atom: Atom) -> list[Package]:
         offers = self.offers.get(atom.name, ()) if self.is_of_home(atom) else ()
@@ -371,12 +408,16 @@ class Index:
 
     def meeting(self, element: str) -> list[Package]:
         """The packages that meet an element, each once."""
-        return list(dict.fromkeys(package for atom in self.atoms(element) for package in self.meeting_atom(atom)))
+        found = [package for atom in self.atoms(element) for package in self.meeting_atom(atom)]
+        return list(dict.fromkeys(found)) if len(found) > 1 else found
 
     def goal(self, word: str) -> list[Package]:
         """The packages that a goal names, `name` or `name=version`."""
         name, equals, version = word.partition("=")
         return [p for p in self.named.get(name, ()) if not equals or version_key(p.version) == version_key(version)]
+
+    def package(self, name: str, version: str) -> Package:
+        return next(p for p in self.named[name] if p.version == version)
 
     def reach(self, names: tuple[str, ...]) -> set[Package]:
         """The packages of the names, and all that they reach through needs."""

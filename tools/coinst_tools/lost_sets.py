@@ -33,6 +33,8 @@ MOST_STEPS = 1_000_000  # of the rule on one kernel; Debian's sid takes 101,219
 MOST_CHOICES = 2_000  # of one kernel; Debian's sid has 220, Debian 12 with its security archive 31,550
 MOST_PROBLEMS = 10_000  # of one kernel at a time; Debian's sid has 2,047
 
+MOST_OPEN = 30  # groups that a set is tried with
+
 Bits = int  # a set of parts, or of kinds, by their numbers
 Classes = frozenset[int]
 Kinds = tuple[int, ...]
@@ -231,6 +233,10 @@ class Side:
                 self.owners[part] |= 1 << kind
         self.dead, self.foes = 0, [0] * len(goals)
         self.wide = [problem for problem in self.parts.problems if problem.bit_count() > 2]
+        self.filed: dict[int, list[Bits]] = collections.defaultdict(list)  # the wide ones by the part that fewest kinds have
+        for problem in self.wide:
+            self.filed[min(bits_of(problem), key=lambda part: self.owners[part].bit_count())].append(problem)
+        self.rarest = sum(1 << part for part in self.filed)
         for problem in self.parts.problems:
             self.add_foes(problem)
 
@@ -256,12 +262,49 @@ class Side:
             else:
                 self.dead |= 1 << kind
 
+    def grouped(self, sets: Iterable[Kinds]) -> list[tuple[Kinds, list[Kinds]]]:
+        """The sets in groups, each with all kinds of it, which can be together: each set goes to the first of some groups that takes it."""
+        groups: list[Group] = []
+        for kinds in sets:
+            if not (group := next((group for group in groups[-MOST_OPEN:] if group.fits(kinds)), None)):
+                groups.append(group := Group(self))
+            group.put(kinds)
+        return [(tuple(bits_of(group.kinds)), group.sets) for group in groups]
+
     def can(self, kinds: Iterable[int]) -> bool:
         """Whether these kinds, of which each two can be together, can all be."""
-        have = 0
+        have = self.parts_of(kinds)
+        return all(problem & ~have for part in bits_of(have & self.rarest) for problem in self.filed[part])
+
+    def parts_of(self, kinds: Iterable[int]) -> Bits:
+        found = 0
         for kind in kinds:
-            have |= self.has[kind]
-        return all(problem & ~have for problem in self.wide)
+            found |= self.has[kind]
+        return found
+
+
+class Group:
+    """Sets of kinds that can all be together."""
+
+    def __init__(self, side: Side):
+        self.side = side
+        self.sets: list[Kinds] = []
+        self.kinds = self.has = self.foes = 0
+
+    def fits(self, kinds: Kinds) -> bool:
+        """Whether a set can be with all that are there; a problem that comes about has a part that they had not."""
+        if any(self.foes >> kind & 1 for kind in kinds):
+            return False
+        has = self.side.parts_of(kinds) | self.has
+        having = self.side.parts.found.having
+        return all(problem & ~has for part in bits_of(has & ~self.has) for problem in having.get(part, ()))
+
+    def put(self, kinds: Kinds) -> None:
+        self.sets.append(kinds)
+        self.has |= self.side.parts_of(kinds)
+        for kind in kinds:
+            self.kinds |= 1 << kind
+            self.foes |= self.side.foes[kind]
 
 
 class Lost:

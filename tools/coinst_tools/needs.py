@@ -56,7 +56,7 @@ class Needs:
 
     def elements(self, package: Package) -> list[str]:
         if package not in self.strike:
-            return list(package.needs)
+            return package.needs
         struck = self.strike[package]
         return [e for kind in NEED for e in package.relations.get(kind, ()) if (kind, e) not in struck]
 

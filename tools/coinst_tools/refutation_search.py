@@ -353,10 +353,10 @@ class Upwards:
         choices = [[n for n in self.of[w] if self.cost[n] + base + len(others) - 1 < self.bound] for w in others]
         for chosen in itertools.product(*choices):
             self.limit.spend(1 + len(need.ways))
-            total = base + sum(self.cost[n] for n in chosen)
+            total = base + sum(map(self.cost.__getitem__, chosen))
             if total < self.bound:
                 of = dict(zip(others, chosen))
-                made = Need(need.owner, need.element, tuple(Way(w.package, of.get(w.package, nogood)) for w in need.ways))
+                made = Need(need.owner, need.element, tuple([Way(w.package, of.get(w.package, nogood)) for w in need.ways]))
                 self.offer(total, made.nogood(), made)
 
 

@@ -1,5 +1,5 @@
 -- for the bodies of this crate alone
--- What a shelf over real files says of the rest.
+-- What a shelf over real files says of the unread bytes of its open file.
 use Rattle.std.specs.Prelude.{ℕ, List, [], Option, Some, None}
 
 -- what an open file says of its unread rest; no bytes if no file is open

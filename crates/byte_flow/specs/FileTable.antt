@@ -1,7 +1,9 @@
 -- Files in memory, the newest first, and the place of the one reader.
-use Rattle.std.specs.Prelude.{ℕ, List, [], drop, Option, Some, None, option_map, find, bytes_eq, string_bytes, slice_get}
-use Rattle.byte_flow.specs.{declared.file_table.FileTable.{FileTable}, declared.file_table.StoredFile.{StoredFile}, declared.file_table.Place.{Place}}
-use Rattle.byte_flow.specs.Flow.{Files}
+use Rattle.std.specs.Prelude.{ℕ, List, [], drop, Option, Some, None, option_map, find, bytes_eq}
+use Rattle.std.specs.Prelude.{string_bytes, slice_get}
+use Rattle.byte_flow.specs.declared.file_table.FileTable.{FileTable}
+use Rattle.byte_flow.specs.declared.file_table.StoredFile.{StoredFile}
+use Rattle.byte_flow.specs.{declared.file_table.Place.{Place}, Flow.{Files}}
 
 -- the bytes of the newest file with each path
 abbrev pub stored_files : List StoredFile → Files

@@ -1,6 +1,8 @@
 -- What the calls of a shelf and a sink answer and leave: bytes by paths, counts of faults, bytes
 -- moved, room.
-use Rattle.std.specs.Prelude.{◌≡◌, Bool, ℕ, ◌+◌, ◌-◌, ◌^◌, ◌<◌, ◌≤◌, min, List, [], length, Option, Some, None, IsSome, IsNone, IsSomeAnd, bytes_eq, if◌then◌else◌, Result, Ok, Err, OnErr, IfOk, ⊤}
+use Rattle.std.specs.Prelude.{◌≡◌, Bool, ℕ, ◌+◌, ◌-◌, ◌^◌, ◌<◌, ◌≤◌, min, List, [], length, Option}
+use Rattle.std.specs.Prelude.{Some, None, IsSome, IsNone, IsSomeAnd, bytes_eq, if◌then◌else◌}
+use Rattle.std.specs.Prelude.{Result, Ok, Err, OnErr, IfOk, ⊤}
 
 -- the bytes of each path; none if the path is not there
 abbrev pub Files : Type 0

@@ -1,4 +1,4 @@
--- What was read and written, as the real shelf and the real sink note it.
+-- What was read and written, as noted by the shelf over real files and the sink over a real stream.
 use Rattle.std.specs.Prelude.{ℕ, List, [], ◌∷◌, ◌++◌, Option, Some, None, Bool, if◌then◌else◌}
 
 -- a path at which a file was opened, and all that its reads handed over

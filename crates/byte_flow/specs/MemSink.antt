@@ -1,6 +1,8 @@
 -- A sink in memory: what it took, the room made, its listed calls, and what a write does to them.
-use Rattle.std.specs.Prelude.{◌≡◌, ℕ, ◌-◌, min, Bool, ◌||◌, List, ◌++◌, length, take, Option, Some, None, is_some, unwrap_or, nat_lt, if◌then◌else◌}
-use Rattle.byte_flow.specs.{declared.mem_sink.MemSink.{MemSink}, Flow.{faults_after, raised}, Schedule.{has_pending, is_next_listed}}
+use Rattle.std.specs.Prelude.{◌≡◌, ℕ, ◌-◌, min, Bool, ◌||◌, List, ◌++◌, length, take, Option, Some}
+use Rattle.std.specs.Prelude.{None, is_some, unwrap_or, nat_lt, if◌then◌else◌}
+use Rattle.byte_flow.specs.{declared.mem_sink.MemSink.{MemSink}, Flow.{faults_after, raised}}
+use Rattle.byte_flow.specs.Schedule.{has_pending, is_next_listed}
 
 -- the bytes taken
 abbrev pub taken_of : MemSink → List ℕ

@@ -1,5 +1,5 @@
--- What clauses know of a shelf and of a sink: what they hold, and what their calls may answer and
--- leave.
+-- What contracts may say of a shelf and of a sink: what these hold, what their calls may answer,
+-- and how a call may leave them.
 use Rattle.std.specs.Prelude.{ℕ, Bool, List, Option}
 use Rattle.byte_flow.specs.Flow.{Files}
 

@@ -1,6 +1,8 @@
 // Files in memory, and the place of their one reader.
-ghost use Rattle.std.specs.Prelude.{◌≡◌, ◌≤◌, [], OnOk, OnErr, bytes_eq, drop, is_some, length, position, string_bytes, unwrap_or};
-ghost use Rattle.byte_flow.specs.{FileTable.{files_in, rest_at, rest_in}, Flow.{no_files, with_file}};
+ghost use Rattle.std.specs.Prelude.{◌≡◌, ◌≤◌, [], OnOk, OnErr, bytes_eq, drop, is_some, length};
+ghost use Rattle.std.specs.Prelude.{position, string_bytes, unwrap_or};
+ghost use Rattle.byte_flow.specs.FileTable.{files_in, rest_at, rest_in};
+ghost use Rattle.byte_flow.specs.Flow.{no_files, with_file};
 
 use std::alloc::{AllocError, Global};
 

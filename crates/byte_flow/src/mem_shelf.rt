@@ -20,7 +20,9 @@ pub struct MemShelf {
 
 impl MemShelf {
     ghost use Rattle.byte_flow.specs.Flow.{no_files, with_file};
-    ghost use Rattle.byte_flow.specs.MemShelf.{KeepsCalls, KeepsCounts, KeepsFiles, calls_of, faults_of, files_of, listed_of, moved_of, rest_of, step_of};
+    ghost use Rattle.byte_flow.specs.MemShelf.{KeepsCalls, KeepsCounts, KeepsFiles, calls_of};
+    ghost use Rattle.byte_flow.specs.MemShelf.{faults_of, files_of, listed_of, moved_of, rest_of};
+    ghost use Rattle.byte_flow.specs.MemShelf.{step_of};
 
     /// A shelf without files whose reads give at most `step` bytes.
     pub fn new(alloc: Global, step: u32) -> Self
@@ -82,7 +84,8 @@ impl MemShelf {
 impl Shelf for MemShelf {
     ghost use Rattle.std.specs.Prelude.{◌≡◌, Some, false};
     ghost use Rattle.std.proofs.Common.{rules};
-    ghost use Rattle.byte_flow.specs.MemShelf.{Read, Started, faults_of, files_of, is_waiting, moved_of, rest_of};
+    ghost use Rattle.byte_flow.specs.MemShelf.{Read, Started, faults_of, files_of, is_waiting};
+    ghost use Rattle.byte_flow.specs.MemShelf.{moved_of, rest_of};
 
     ghost model = { record {
       contents = λ s. Some (files_of s);

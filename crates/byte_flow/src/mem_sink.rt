@@ -1,5 +1,6 @@
 // A sink into memory, for tests.
-ghost use Rattle.std.specs.Prelude.{◌≡◌, ◌≤◌, ◌<◌, [], ◌∷◌, ◌++◌, IsOk, OnOk, OnErr, max, vec_capacity, vec_len};
+ghost use Rattle.std.specs.Prelude.{◌≡◌, ◌≤◌, ◌<◌, [], ◌∷◌, ◌++◌, IsOk, OnOk, OnErr, max};
+ghost use Rattle.std.specs.Prelude.{vec_capacity, vec_len};
 
 use crate::count::Count;
 use crate::schedule::Schedule;
@@ -24,7 +25,8 @@ pub struct MemSink {
 }
 
 impl MemSink {
-    ghost use Rattle.byte_flow.specs.MemSink.{KeepsCalls, calls_of, faults_of, listed_of, made_of, step_of, taken_of};
+    ghost use Rattle.byte_flow.specs.MemSink.{KeepsCalls, calls_of, faults_of, listed_of, made_of};
+    ghost use Rattle.byte_flow.specs.MemSink.{step_of, taken_of};
 
     /// A sink without room whose writes take at most `step` bytes.
     pub fn new(alloc: Global, step: u32) -> Self

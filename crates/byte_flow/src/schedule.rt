@@ -1,5 +1,6 @@
 // Numbered calls; some are to fail.
-ghost use Rattle.std.specs.{Prelude.{◌≡◌, ◌==◌, ◌∷◌, ◌++◌, [], false, OnOk, OnErr}, List.{list_any}};
+ghost use Rattle.std.specs.Prelude.{◌≡◌, ◌==◌, ◌∷◌, ◌++◌, [], false, OnOk, OnErr};
+ghost use Rattle.std.specs.List.{list_any};
 ghost use Rattle.byte_flow.specs.{Flow.{raised}, Schedule.{has_pending, is_next_listed}};
 
 use std::alloc::{AllocError, Global};

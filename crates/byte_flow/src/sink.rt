@@ -1,5 +1,6 @@
 // What a sink promises to those who write into it.
-ghost use Rattle.std.specs.{Prelude.{◌≡◌, ◌+◌, ◌<◌, ◌≤◌, ◌^◌, length, IsOk}, Result.{result_ok}, Io.KnownBytes.{WriteAppends}};
+ghost use Rattle.std.specs.{Prelude.{◌≡◌, ◌+◌, ◌<◌, ◌≤◌, ◌^◌, length, IsOk}, Result.{result_ok}};
+ghost use Rattle.std.specs.Io.KnownBytes.{WriteAppends};
 ghost use Rattle.byte_flow.specs.{Flow.{HasCause, MakesHeadway, room_spent}, Models.{SinkModel}};
 
 use crate::Failed;

@@ -1,3 +1,3 @@
-//! Small repositories on which the definitions of flattening are computed, and laws that do not
-//! hold, in proofs/: a crate by itself, so that no other proves them once more.
+//! In proofs/ the definitions of flattening are computed on small repositories, and laws that do
+//! not hold are refuted. This has a crate of its own, so that no other crate proves it again.
 #![tactic(auto)]

@@ -1,5 +1,5 @@
-//! Runs of whole commands over files and streams in memory: a crate of tests alone, so that what it
-//! goes through is not proved once more for them.
+//! Tests that run whole commands over files and streams in memory. They have a crate of their own,
+//! so that the code that they run is not proved again for them.
 #![tactic(auto)]
 
 #[cfg(test)]

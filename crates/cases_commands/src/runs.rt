@@ -1,7 +1,7 @@
 //! Runs over files and streams in memory, against answers that were worked out by hand. In some of
 //! them chosen calls fail, or give a byte or seven at a time. Whole commands on files that can be
-//! read are in `conformance/cases`. Each function has few owned values, since each of its `?` drops
-//! them all.
+//! read are in `conformance/cases`. Each function owns few values, since at each `?` in it all of
+//! them are dropped.
 use byte_flow::{MemShelf, MemSink};
 use coinst_run::run;
 use std::alloc::{AllocError, Global};

@@ -1,5 +1,5 @@
-//! Which packages of a small suite have a name, and which can be installed together by trying every
-//! set. No command asks either.
+//! Two questions on a small suite that no command asks. Which packages have a name? Which can be
+//! installed together, if every set is tried?
 use crate::samples::suite_of;
 use repo_model::{Suite, are_coinstallable};
 use std::alloc::AllocError;

@@ -1,6 +1,7 @@
-//! Calls that no command makes, and what pools and rounds keep: a crate of tests alone, so that
-//! what it goes through is not proved once more for them. Whole commands are cases of
-//! `conformance/cases`. Each function has few owned values, since each of its `?` drops them all.
+//! Tests of calls that no command makes, and of what pools and rounds keep. They have a crate of
+//! their own, so that the code that they run is not proved again for them. Whole commands are cases
+//! of `conformance/cases`. Each function owns few values, since at each `?` in it all of them are
+//! dropped.
 #![tactic(auto)]
 
 #[cfg(test)]

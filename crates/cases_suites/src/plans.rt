@@ -1,5 +1,5 @@
-//! A plan with both texts at hand, a call that no command makes: the program gives each text back
-//! once it was read.
+//! A plan that is made while both texts are at hand. No command does so: the program gives each
+//! text back once it was read.
 ghost use Rattle.std.specs.Prelude.{◌≡◌, ◌≤◌, false, length, IfOk};
 ghost use Rattle.repo_model.specs.{Feeding.{IsSuiteOf}, Limits.{most_bytes}};
 

@@ -1,5 +1,5 @@
 //! Calls that no command makes: keys of versions, the front of a text that is closed, and fields of
-//! relations read by themselves. How versions compare is what `tool_versions` is run on. Faults,
+//! relations read by themselves. How versions compare is tried by runs of `tool_versions`. Faults,
 //! and which packages meet an atom, are cases of `conformance/cases`.
 use deb_version::Version;
 use relation_fields::{RelationError, parse_against, parse_needs, parse_provides};

@@ -1,5 +1,5 @@
-//! Files, and calls that no command makes: a crate of tests alone, so that what it goes through is
-//! not proved once more for them.
+//! Tests of files, and of calls that no command makes. They have a crate of their own, so that the
+//! code that they run is not proved again for them.
 #![tactic(auto)]
 
 #[cfg(test)]

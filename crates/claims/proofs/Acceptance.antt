@@ -1,7 +1,8 @@
 -- An index, as the relation has it, has no fault where its packages are no more than may be.
-use Rattle.relation_fields.specs.Spelling.{SpellsAlternatives, SpellsAtom, SpellsProvide}
-use Rattle.std.proofs.Common.{◌≡◌, ◌≢◌, ℕ, suc, ◌+◌, ◌<◌, ◌≤◌, Bool, true, false, not, cond, ◌&&◌, ◌||◌, List, [], ◌∷◌, ◌++◌, Option, Some, None, length, take, map, refl, sym, ap, ◌∙◌, subst, inl, inr, ◌⊎◌, arith, length-append, append_assoc}
-use Rattle.std.proofs.{Math.Seq.{take-append_seam}, lemmas.Bool.{and_parts, cases_Bool, false_from_ne_true}, lemmas.Bool.Decides.{nat_tests}}
+use Rattle.relation_fields.specs.Spelling.{SpellsAlternatives, SpellsAtom, SpellsProvide, Reads}
+use Rattle.std.proofs.Common.{◌≡◌, ◌≢◌, ℕ, suc, ◌+◌, ◌<◌, ◌≤◌, Bool, true, false, not, cond, ◌&&◌, ◌||◌, List, [], ◌∷◌, ◌++◌, Option, Some, None, length, take}
+use Rattle.std.proofs.{Common.{map, refl, sym, ap, ◌∙◌, subst, inl, inr, ◌⊎◌, arith, length-append, append_assoc}, Math.Seq.{take-append_seam}}
+use Rattle.std.proofs.{lemmas.Bool.{and_parts, cases_Bool, false_from_ne_true}, lemmas.Bool.Decides.{nat_tests}}
 use Rattle.std.proofs.{lemmas.List.{append-nil, length-map, map-append}, lemmas.List.Elements.{AllZip-get_or}, lemmas.List.Folds.{list_all-append}}
 use Rattle.std.proofs.{lemmas.Slice.Eq.{bytes_eq-Decides}, lemmas.Slice.Zip.{AllZip-long}}
 use Rattle.std.specs.Prelude.{slice_index_or, nat_le, nat_lt, codes, unwrap_or, is_some, ◌==◌}
@@ -9,22 +10,24 @@ use Rattle.std.specs.List.{AllZip, filter, list_all, list_any, position, positio
 use Rattle.std.specs.{Option.{is_none, option_map, option_and_then, option_or}, Ordering.{is_eq}, Str.{bytes_eq}}
 use Rattle.deb_version.specs.{Grammar.{is_colon, is_version}, Names.{is_name}}
 use Rattle.listed.specs.{Lists.{In, here, there}, Texts.{is_white_byte}}
-use Rattle.listed.proofs.Lists.{In_append_left, In_append_right, In_cases, In_map, In_map_cases, In_none, In_place, filter_from, find_not}
+use Rattle.listed.proofs.Lists.{In_append_left, In_append_right, In_cases, In_map, In_map_cases, In_none, In_place, filter_from, find_not, map_alike}
 use Rattle.relation_fields.specs.Fields as whole
 use Rattle.relation_fields.specs.{Fields.{first_outside, is_outside, written}, Grammar.{atom_of, alternatives_of, provide_of, is_architecture}}
-use Rattle.relation_fields.specs.{Spelling.{Reads}, Texts.{is_white}, declared.packages.Home.{Home}, declared.packages.PackageFacts.{PackageFacts}}
+use Rattle.relation_fields.specs.{Texts.{is_white}, declared.packages.Home.{Home}, declared.packages.PackageFacts.{PackageFacts}}
 use Rattle.stanza_reader.specs.Fields.{continued, is_field_name, is_field_name_byte, is_same_name, lowered, name_of}
 use Rattle.stanza_reader.specs.Lines.{Line, is_continuation, lines, numbered}
 use Rattle.stanza_reader.specs.Stanzas as reader
-use Rattle.stanza_reader.specs.Stanzas.{texts, first_line_fault, first_number, group_shape_fault, has_name, kept_fields, line_fault, readings, repeat_fault, stanza_of, unless_fault}
-use Rattle.stanza_reader.specs.declared.stanza.FieldKind.{FieldKind}
+use Rattle.stanza_reader.specs.Stanzas.{texts, first_line_fault, first_number, group_shape_fault, has_name, kept_fields, line_fault, readings, repeat_fault}
+use Rattle.stanza_reader.specs.{Stanzas.{stanza_of, unless_fault}, declared.stanza.FieldKind.{FieldKind}}
 use Rattle.stanza_reader.specs.declared.stanza.FieldKind.TheVariants.{Package, Version, Architecture, PreDepends, Depends, Conflicts, Breaks, Provides}
 use Rattle.stanza_reader.specs.{declared.stanza.RawField.{RawField}, declared.stanza.RawStanza.{RawStanza}}
 use Rattle.stanza_reader.specs.declared.fault.StanzaFault.TheVariants.{LoneContinuation, Repeated}
 use Rattle.repo_model.specs.{Facts.{facts_of, is_all, is_same_package, architecture_of}, Fields.{field_of}}
-use Rattle.repo_model.specs.FirstFault.{first_present, missing, unless_good, bad_value, unless_said, bad_relation, presence_fault, value_fault, own_fault, duplicate_fault, mixed_fault, is_at_home, home_of, stanza_fault, reading_fault, fault_behind, faults_from, first_fault, stanzas_in}
-use Rattle.repo_model.specs.{Limits.{most_packages}, Stanzas.{stanza_at, no_stanza}, declared.fault.IndexFault.{IndexFault}}
-use Rattle.repo_model.specs.declared.fault.IndexFault.TheVariants.{MissingPackage, MissingVersion, BadPackage, BadVersion, BadArchitecture, BadRelation, Duplicate, Mixed, TooMany}
+use Rattle.repo_model.specs.FirstFault.{first_present, missing, unless_good, bad_value, unless_said, bad_relation, presence_fault, value_fault, own_fault}
+use Rattle.repo_model.specs.FirstFault.{duplicate_fault, mixed_fault, is_at_home, home_of, stanza_fault, reading_fault, fault_behind, faults_from, first_fault}
+use Rattle.repo_model.specs.{FirstFault.{stanzas_in}, Limits.{most_packages}, Stanzas.{stanza_at, no_stanza}, declared.fault.IndexFault.{IndexFault}}
+use Rattle.repo_model.specs.declared.fault.IndexFault.TheVariants.{MissingPackage, MissingVersion, BadPackage, BadVersion, BadArchitecture, BadRelation}
+use Rattle.repo_model.specs.declared.fault.IndexFault.TheVariants.{Duplicate, Mixed, TooMany}
 use Rattle.repo_model.proofs.{Accepted.{AreSingle}, Refusing.{none_behind}}
 use Rattle.coinst_words.specs.Usage.{Text}
 use Rattle.claims.specs.{Control.{fields, name_key, field_value, AreDistinct, IsStanza}, Index.{relation_elements, FitsHome, Says, SaysTheSame}}
@@ -32,9 +35,10 @@ use Rattle.claims.specs.Laws.{IndexesAreAccepted}
 use Rattle.stanza_reader.proofs.LineLemmas.{cut_later}
 use Rattle.deb_version.specs.Order.{version_order}
 use Rattle.claims.proofs.Control.{groups_are_theirs, group_is_read, name_whole, none_of, shaped}
-use Rattle.claims.proofs.{Index.{first_there, Local, ok, own_field, same_text, says, says_one, stanzas_ok, zip_both, zip_left}, Kernel.{map_map}}
+use Rattle.claims.proofs.Index.{first_there, Local, ok, own_field, same_text, says, says_one, stanzas_ok, zip_both, zip_left}
 use Rattle.claims.proofs.Values.{key, kept_value, value_is}
 use Rattle.relation_fields.proofs.Readings.{alternatives_read, atoms_read, provides_read}
+use Rattle.std.proofs.lemmas.Simd.{map-map}
 
 none_any : {A : Type 0} (p : A → Bool) (xs : List A) → ((x : A) → In x xs → p x ≡ false) → list_any p xs ≡ false
 none_any p [] f = refl
@@ -318,10 +322,6 @@ module _ (home : Option Text) (ss : List RawStanza) (few : length ss ≤ most_pa
       (subst (λ xs. fault_behind xs (ok s) ≡ None) (sym front) first)
       (subst (λ n. first_present (faults_from (map ok ss) n (map ok more)) ≡ None) (length-append before (s ∷ [])) (walk_on (before ++ s ∷ []) more next))
 
-map_in : {A B : Type 0} (f g : A → B) (xs : List A) → ((x : A) → In x xs → f x ≡ g x) → map f xs ≡ map g xs
-map_in f g [] e = refl
-map_in f g (x ∷ xs) e = ap (λ y. y ∷ map f xs) (e x here) ∙ ap (λ more. g x ∷ more) (map_in f g xs (λ y i. e y (there i)))
-
 each_says : (home : Home) (gs : List (List Line)) → ((g : List Line) → In g gs → Says home (texts g) (facts_of (raw g))) → AllZip (Says home) (map texts gs) (map facts_of (map raw gs))
 each_says home [] f = tt
 each_says home (g ∷ gs) f = (f g here, each_says home gs (λ h i. f h (there i)))
@@ -333,7 +333,7 @@ indexes_are_accepted text home stanzas i few =
     let each : AllZip (Says home) (map texts gs) stanzas = subst (λ all. AllZip (Says home) all stanzas) (sym (groups_are_theirs text)) i.each in
     let said : (g : List Line) → In g gs → (facts : PackageFacts) × Says home (texts g) facts = λ g j. zip_left (Says home) (map texts gs) stanzas (texts g) each (In_map texts gs g j) in
     let ss : List RawStanza = map raw gs in
-    let read : readings text ≡ map ok ss = map_in stanza_of (λ g. ok (raw g)) gs (λ g j. stanza_ok g (said g j).1.stanza) ∙ sym (map_map ok raw gs) in
+    let read : readings text ≡ map ok ss = map_alike stanza_of (λ g. ok (raw g)) gs (λ g j. stanza_ok g (said g j).1.stanza) ∙ sym (map-map ok raw gs) in
     let zip : AllZip SaysTheSame (map facts_of ss) stanzas
     = zip_both (Says home) (Says home) SaysTheSame (λ g s t. says_one home home g s t) (map texts gs) (map facts_of ss) stanzas (each_says home gs (λ g j. says_own home g (said g j).0 (said g j).1)) each in
     let long : length stanzas ≡ length (map facts_of ss) = AllZip-long SaysTheSame (map facts_of ss) stanzas zip in

@@ -1,10 +1,10 @@
 -- Which jobs the words of the commands that search ask for.
-use Rattle.std.proofs.Common.{◌≡◌, ℕ, ◌≤◌, Bool, true, false, cond, ◌&&◌, List, [], ◌∷◌, ◌++◌, Option, Some, None, length, refl, sym, ap, ◌∙◌, subst, append_assoc}
-use Rattle.std.proofs.lemmas.List.{append-nil}
+use Rattle.std.proofs.Common.{◌≡◌, ℕ, ◌≤◌, Bool, true, false, cond, ◌&&◌, List, [], ◌∷◌, ◌++◌, Option, Some, None, length, refl, sym, ap, ◌∙◌, subst}
+use Rattle.std.proofs.{Common.{append_assoc}, lemmas.List.{append-nil}}
 use Rattle.std.specs.{Prelude.{codes, get_or, unwrap_or, option_and_then, option_map, ◌==◌}, Fmt.{decimal}, Str.{bytes_eq}}
 use Rattle.clap.specs.Lexer.{long_of, long_of_rest, short_of, short_of_rest, strip_byte}
-use Rattle.coinst_words.specs.Usage.{Usage, Said, dashed_or_plain, ends, flag, long_or_other, asks, plain, nothing_said, meaning_of, value_of, give, read_word, read, Text}
-use Rattle.coinst_words.specs.Words.{is_path, clause_limit_of, budget_of, two_paths, index_and_goals, some_goals_of, goals_of}
+use Rattle.coinst_words.specs.Usage.{Usage, Said, dashed_or_plain, ends, flag, long_or_other, asks, plain, nothing_said, meaning_of, value_of, give, read_word}
+use Rattle.coinst_words.specs.{Usage.{read, Text}, Words.{is_path, clause_limit_of, budget_of, two_paths, index_and_goals, some_goals_of, goals_of}}
 use Rattle.coinst_words.specs.Jobs.{Options, query_usage, explain_usage, status_usage, migrate_usage, settings_by, query_by, job_of, job_of_said}
 use Rattle.coinst_words.specs.{declared.job.Job.{Job}, declared.job.Settings.{Settings}}
 use Rattle.coinst_words.specs.declared.job.Job.TheVariants.{Query, StoredQuery, Explain, Status, Migrate}

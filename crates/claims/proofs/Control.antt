@@ -1,6 +1,7 @@
 -- Groups of lines and their fields, as they are read.
-use Rattle.std.proofs.Common.{◌≡◌, ◌≢◌, ℕ, Bool, true, false, not, ◌&&◌, ◌||◌, cond, List, [], ◌∷◌, ◌++◌, Option, Some, None, Ok, length, refl, sym, ap, ◌∙◌, subst, inl, inr, ◌⊎◌, arith, map, filter}
-use Rattle.std.proofs.{lemmas.Bool.{and_from}, lemmas.Bool.Decides.{nat_tests}, lemmas.List.Folds.{list_any-append}, lemmas.Slice.Eq.{bytes_eq-Decides}}
+use Rattle.std.proofs.Common.{◌≡◌, ◌≢◌, ℕ, Bool, true, false, not, ◌&&◌, ◌||◌, cond, List, [], ◌∷◌, ◌++◌, Option, Some, None, Ok, length, refl, sym, ap, ◌∙◌}
+use Rattle.std.proofs.{Common.{subst, inl, inr, ◌⊎◌, arith, map, filter}, lemmas.Bool.{and_from}, lemmas.Bool.Decides.{nat_tests}}
+use Rattle.std.proofs.{lemmas.List.Folds.{list_any-append}, lemmas.Slice.Eq.{bytes_eq-Decides}}
 use Rattle.std.specs.{Prelude.{nat_lt, slice_index_or}, List.{list_any, slice_split, onto_first, before_first, after_first}, Option.{option_or}}
 use Rattle.deb_version.specs.Grammar.{is_colon}
 use Rattle.listed.specs.{Lists.{In, here, there}, Texts.{trim_both, trim_start}}
@@ -8,15 +9,15 @@ use Rattle.listed.proofs.Lists.{In_cases, In_none, any_none}
 use Rattle.stanza_reader.specs.Fields.{continued, is_field_name, lowered, name_of, is_edge, is_same_name, trimmed, trimmed_start, trimmed_end, before_trimmed}
 use Rattle.stanza_reader.specs.Lines.{Line, lines, numbered, is_blank, is_continuation, is_line_feed}
 use Rattle.stanza_reader.specs.Stanzas as reader
-use Rattle.stanza_reader.specs.Stanzas.{texts, is_blank_line, has_line, line_fault, first_line_fault, group_shape_fault, repeat_fault, has_name, kept_fields, first_number, unless_fault, stanza_of}
-use Rattle.stanza_reader.specs.{declared.stanza.RawStanza.{RawStanza}, declared.fault.StanzaFault.{StanzaFault}}
-use Rattle.stanza_reader.specs.declared.fault.StanzaFault.TheVariants.{NoColon, BadName, LoneContinuation, Repeated}
+use Rattle.stanza_reader.specs.Stanzas.{texts, is_blank_line, has_line, line_fault, first_line_fault, group_shape_fault, repeat_fault, has_name, kept_fields}
+use Rattle.stanza_reader.specs.{Stanzas.{first_number, unless_fault, stanza_of}, declared.stanza.RawStanza.{RawStanza}}
+use Rattle.stanza_reader.specs.{declared.fault.StanzaFault.{StanzaFault}, declared.fault.StanzaFault.TheVariants.{NoColon, BadName, LoneContinuation, Repeated}}
 use Rattle.stanza_reader.proofs.{CloseLemmas.{texts_numbered}, LineLemmas.{cut_here, cut_later}, ValueLemmas.{trimmed_front, trimmed_back}}
 use Rattle.coinst_words.specs.Usage.{Text}
 use Rattle.claims.specs.Control.{stanza_groups, fields, name_key, AreDistinct, IsStanza}
 
 -- a list that is cut has a first piece
-first_piece : {X : Type 0} (p : X → Bool) (xs : List X) → (part : List X) × (parts : List (List X)) × (slice_split p xs ≡ part ∷ parts)
+pub first_piece : {X : Type 0} (p : X → Bool) (xs : List X) → (part : List X) × (parts : List (List X)) × (slice_split p xs ≡ part ∷ parts)
 first_piece p [] = ([], [], refl)
 first_piece {X} p (x ∷ xs) = go (p x) refl (first_piece p xs)
   where

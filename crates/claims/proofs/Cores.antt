@@ -1,7 +1,8 @@
 -- The goals and conflicts that the code keeps, by the words of the sentences.
 use Rattle.suite_compare.specs.{Indexes.{SearchedIndex}, Asking.{HasVerdict, asked_tree, tree_of, verdict_of, wanted_by}, Refusals.{home_in, packages_in}}
-use Rattle.std.proofs.Common.{◌≡◌, ℕ, suc, ◌+◌, ◌-◌, ◌<◌, ◌≤◌, Bool, true, false, cond, List, [], ◌∷◌, ◌++◌, Option, Some, None, length, map, slice_index_or, ltb-true, lt-ltb, refl, sym, ap, ap₂, subst, ◌∙◌, append_assoc, arith}
-use Rattle.std.proofs.{lemmas.List.{length-append}, Math.Seq.{get_or-append_seam}}
+use Rattle.std.proofs.Common.{◌≡◌, ℕ, suc, ◌+◌, ◌-◌, ◌<◌, ◌≤◌, Bool, true, false, cond, List, [], ◌∷◌, ◌++◌, Option, Some, None, length, map, slice_index_or}
+use Rattle.std.proofs.{Common.{ltb-true, lt-ltb, refl, sym, ap, ap₂, subst, ◌∙◌, append_assoc, arith}, lemmas.List.{length-append}}
+use Rattle.std.proofs.{Math.Seq.{get_or-append_seam}, lemmas.Simd.{map-map}}
 use Rattle.std.specs.{Prelude.{◌↔◌, is_some, ltb, IfSome, option_map}, List.{AllZip, range_with_len}}
 use Rattle.clause_solver.specs.{declared.outcomes.Verdict.{Verdict}, declared.outcomes.Verdict.TheVariants.{No, Spent, Yes}}
 use Rattle.coinst_words.specs.Usage.{Text}
@@ -24,8 +25,8 @@ use Rattle.suite_compare.proofs.{Deciding.{named_from, verdict_is_judged}, Range
 use Rattle.claims.specs.{Explained.{AreKept, ArePackagesFor, CouldMeet, IsTooLongWith, PrintedGoal, as_clashes}, Goals.{CanMeet}, Laws.{as_read}}
 use Rattle.claims.specs.{Search.{Searched}, Settled.{IsPastBudget}}
 use Rattle.claims.proofs.{Budget.{past_from, past_to}, Goals.{AreGoals, names_from, names_to, word_at}, Index.{indexes_are_read}}
-use Rattle.claims.proofs.{Keeping.{IsSame, kept_all_spent, kept_so}, Kernel.{map_itself, map_map}}
-use Rattle.claims.proofs.{Meeting.{can_meet, each_from, each_to, meets_goals, says_named}, Search.{searches_are_one, trees_are_searches}}
+use Rattle.claims.proofs.{Keeping.{IsSame, kept_all_spent, kept_so}, Kernel.{map_itself}, Meeting.{can_meet, each_from, each_to, meets_goals, says_named}}
+use Rattle.claims.proofs.Search.{searches_are_one, trees_are_searches}
 
 -- a goal of a number as it is printed
 abbrev pub printed_goal : List Text → Mark → PrintedGoal
@@ -120,7 +121,7 @@ module _ (index : SearchedIndex) (fine : first_fault index.text ≡ None) where
         let so = kept_so word_of (λ (k : KeptItem ℕ). printed_goal words (mark k)) (λ (k : KeptItem ℕ). k.item) (λ (k : KeptItem ℕ). k.unsettled) (λ (g : PrintedGoal). g.word) (λ (g : PrintedGoal). g.undecided) (λ ns. verdicts ns ≡ Spent) (IsPastBudget s) (λ ns. verdicts ns ≡ Yes) (CanMeet s)
         (λ k. refl) (λ k. refl) [] numbers_of kept same_goals (kept_all_spent verdicts numbers_of) in
         subst (λ ws. AreKept (λ (g : PrintedGoal). g.word) (λ (g : PrintedGoal). g.undecided) (IsPastBudget s) (CanMeet s) [] ws (map (printed_goal words) (marks_of kept))) all
-        (subst (λ gs. AreKept (λ (g : PrintedGoal). g.word) (λ (g : PrintedGoal). g.undecided) (IsPastBudget s) (CanMeet s) [] (map word_of numbers_of) gs) (sym (map_map (printed_goal words) mark kept)) so)
+        (subst (λ gs. AreKept (λ (g : PrintedGoal). g.word) (λ (g : PrintedGoal). g.undecided) (IsPastBudget s) (CanMeet s) [] (map word_of numbers_of) gs) (sym (map-map (printed_goal words) mark kept)) so)
 
   -- the conflicts
   module _ (words : List Text) (goals : List Goal) (z : AreGoals words goals) where

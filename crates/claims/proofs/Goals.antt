@@ -1,6 +1,7 @@
 -- A goal that is read of a word names what the word names.
-use Rattle.std.proofs.Common.{◌≡◌, ℕ, zero, suc, ◌<◌, Bool, true, false, cond, ◌&&◌, ◌||◌, eqb-true, length, slice_index_or, arith, List, [], ◌∷◌, ◌++◌, Option, Some, None, refl, sym, ap, ap₂, subst, ◌∙◌, inl, inr}
-use Rattle.std.proofs.{lemmas.Bool.{and_from, and_parts}, lemmas.List.{append-nil}, lemmas.Slice.Eq.{bytes_eq-Decides}}
+use Rattle.std.proofs.Common.{◌≡◌, ℕ, zero, suc, ◌<◌, Bool, true, false, cond, ◌&&◌, ◌||◌, eqb-true, length, slice_index_or, arith, List, [], ◌∷◌, ◌++◌, Option}
+use Rattle.std.proofs.{Common.{Some, None, refl, sym, ap, ap₂, subst, ◌∙◌, inl, inr}, lemmas.Bool.{and_from, and_parts}, lemmas.List.{append-nil}}
+use Rattle.std.proofs.lemmas.Slice.Eq.{bytes_eq-Decides}
 use Rattle.std.specs.{Prelude.{codes, option_and_then, option_map}, List.{AllZip, list_all, list_any, before_first, after_first}, Option.{option_map_or}}
 use Rattle.std.specs.{Ordering.{is_eq}, Str.{bytes_eq}}
 use Rattle.coinst_words.specs.{Usage.{Text}, Words.{goals_of}}

@@ -7,16 +7,7 @@ use Rattle.stanza_reader.specs.{Blanking.{blanked, picked, whole_lines}, Lines.{
 use Rattle.stanza_reader.specs.Stanzas as reader
 use Rattle.claims.specs.{Control.{field_value, stanza_groups}, Index.{Says}}
 use Rattle.stanza_reader.proofs.BlankLemmas.{are_lines, concat_whole, map_picked, picks}
-use Rattle.claims.proofs.Control.{groups_are_theirs}
-
--- a list that is cut has a first piece
-first_piece : {X : Type 0} (p : X → Bool) (xs : List X) → (part : List X) × (parts : List (List X)) × (slice_split p xs ≡ part ∷ parts)
-first_piece p [] = ([], [], refl)
-first_piece {X} p (x ∷ xs) = go (p x) refl (first_piece p xs)
-  where
-    go : (b : Bool) → p x ≡ b → (part : List X) × (parts : List (List X)) × (slice_split p xs ≡ part ∷ parts) → (part : List X) × (parts : List (List X)) × (slice_split p (x ∷ xs) ≡ part ∷ parts)
-    go true e more = ([], slice_split p xs, rw e refl)
-    go false e more = (x ∷ more.0, more.1, rw (e, more.2) refl)
+use Rattle.claims.proofs.Control.{groups_are_theirs, first_piece}
 
 onto_join : {X : Type 0} (x : X) (parts more : List (List X)) (part : List X) (rest : List (List X)) → parts ≡ part ∷ rest → onto_first x (parts ++ more) ≡ onto_first x parts ++ more
 onto_join x parts more part rest e = rw e refl

@@ -1,7 +1,8 @@
 -- An index without a fault is an index of the packages that are read of it.
 use Rattle.relation_fields.specs.Spelling.{SpellsAlternatives, SpellsAtom, SpellsProvide}
-use Rattle.std.proofs.Common.{◌≡◌, ℕ, zero, suc, ◌+◌, ◌<◌, Bool, true, false, not, cond, ◌||◌, List, [], ◌∷◌, ◌++◌, Option, Some, None, Result, Ok, Err, length, take, map, refl, sym, ap, ◌∙◌, subst, inl, inr, ◌⊎◌, arith, length-append, append_assoc}
-use Rattle.std.proofs.{Math.Seq.{take-append_seam}, lemmas.List.{append-nil, length-map, map-append}}
+use Rattle.std.proofs.Common.{◌≡◌, ℕ, zero, suc, ◌+◌, ◌<◌, Bool, true, false, not, cond, ◌||◌, List, [], ◌∷◌, ◌++◌, Option, Some, None, Result, Ok, Err, length}
+use Rattle.std.proofs.{Common.{take, map, refl, sym, ap, ◌∙◌, subst, inl, inr, ◌⊎◌, arith, length-append, append_assoc}, Math.Seq.{take-append_seam}}
+use Rattle.std.proofs.lemmas.List.{append-nil, length-map, map-append}
 use Rattle.std.specs.{Prelude.{nat_le, codes, unwrap_or, is_some, ◌==◌}, List.{AllZip, filter, list_all, slice_split}}
 use Rattle.std.specs.{Option.{option_map, option_map_or, option_and_then, option_or}, Str.{bytes_eq}}
 use Rattle.deb_version.specs.Names.{is_name}
@@ -19,9 +20,11 @@ use Rattle.stanza_reader.specs.{declared.stanza.RawField.{RawField}, declared.st
 use Rattle.repo_model.specs.Facts.{facts_of, is_all, is_same_package, architecture_of}
 use Rattle.repo_model.specs.Fields as kinds
 use Rattle.repo_model.specs.Fields.{field_of}
-use Rattle.repo_model.specs.FirstFault.{first_present, missing, unless_good, bad_value, unless_said, bad_relation, presence_fault, value_fault, own_fault, duplicate_fault, mixed_fault, is_at_home, home_of, stanza_fault, fault_behind, faults_from, first_fault, stanzas_in, stanzas_of}
-use Rattle.repo_model.specs.{Limits.{most_packages}, Stanzas.{stanza_at, no_stanza}, declared.fault.IndexFault.{IndexFault}}
-use Rattle.repo_model.specs.declared.fault.IndexFault.TheVariants.{Stanza, MissingPackage, MissingVersion, BadPackage, BadVersion, BadArchitecture, BadRelation, Mixed, TooMany}
+use Rattle.repo_model.specs.FirstFault.{first_present, missing, unless_good, bad_value, unless_said, bad_relation, presence_fault, value_fault, own_fault}
+use Rattle.repo_model.specs.FirstFault.{duplicate_fault, mixed_fault, is_at_home, home_of, stanza_fault, fault_behind, faults_from, first_fault, stanzas_in}
+use Rattle.repo_model.specs.{FirstFault.{stanzas_of}, Limits.{most_packages}, Stanzas.{stanza_at, no_stanza}, declared.fault.IndexFault.{IndexFault}}
+use Rattle.repo_model.specs.declared.fault.IndexFault.TheVariants.{Stanza, MissingPackage, MissingVersion, BadPackage, BadVersion, BadArchitecture, BadRelation}
+use Rattle.repo_model.specs.declared.fault.IndexFault.TheVariants.{Mixed, TooMany}
 use Rattle.repo_model.proofs.Accepted as accepting
 use Rattle.repo_model.proofs.{Accepted.{AreSingle}, Steps.{home_of-push}, WellFormed.{none_of, facts_well_formed}}
 use Rattle.coinst_words.specs.Usage.{Text}

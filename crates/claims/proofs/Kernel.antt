@@ -1,12 +1,8 @@
 -- The kernel that is computed is the first repository that a round leaves as it is.
-use Rattle.std.proofs.Common.{◌≡◌, ◌≢◌, ℕ, zero, suc, ◌<◌, ◌≤◌, Bool, List, [], ◌∷◌, map, refl, sym, ap, subst, arith}
+use Rattle.std.proofs.{Common.{◌≡◌, ◌≢◌, ℕ, zero, suc, ◌<◌, ◌≤◌, Bool, List, [], ◌∷◌, map, refl, sym, ap, subst, arith}, lemmas.Simd.{map-map}}
 use Rattle.kernel_rounds.proofs.Reached.{kernel_is_lem}
 use Rattle.row_book.specs.{Flattening.{flat}, Merging.{image}, Repository.{Repository}, Rounds.{image_after, round, round_count, rounds}, Sets.{NumSet}}
 use Rattle.claims.specs.{Kernel.{SettlesTo, at_rest, after}, Laws.{KernelsAreKernels, KernelsAreOne}}
-
-pub map_map : {A B C : Type 0} (f : B → C) (g : A → B) (xs : List A) → map f (map g xs) ≡ map (λ x. f (g x)) xs
-map_map f g [] = refl
-map_map f g (x ∷ xs) = ap (λ more. f (g x) ∷ more) (map_map f g xs)
 
 pub map_itself : {A : Type 0} (xs : List A) → map (λ x. x) xs ≡ xs
 map_itself [] = refl
@@ -17,7 +13,7 @@ reached : (limit : ℕ) (hold : Bool) (n : ℕ) (R : Repository) (sets : List Nu
     → round limit hold (rounds limit hold R n) ≡ rounds limit hold R n → SettlesTo limit hold R sets (rounds limit hold R n) (map (image_after limit hold R n) sets)
 reached limit hold zero R sets changes fixed = subst (SettlesTo limit hold R sets R) (sym (map_itself sets)) (at_rest fixed)
 reached limit hold (suc n) R sets changes fixed =
-    subst (SettlesTo limit hold R sets (rounds limit hold (round limit hold R) n)) (map_map (image_after limit hold (round limit hold R) n) (image (flat limit hold R)) sets)
+    subst (SettlesTo limit hold R sets (rounds limit hold (round limit hold R) n)) (map-map (image_after limit hold (round limit hold R) n) (image (flat limit hold R)) sets)
     (after (changes 0 (omega arith)) (reached limit hold n (round limit hold R) (map (image (flat limit hold R)) sets) (λ m l. changes (suc m) (omega arith)) fixed))
 
 pub kernels_are_kernels : KernelsAreKernels

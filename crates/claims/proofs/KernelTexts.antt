@@ -1,7 +1,7 @@
 -- What the text of the kernel of an index is, and which classes goals name in it.
 use Rattle.suite_compare.specs.{Indexes.{SearchedIndex}, Asking.{image_of, images_of}}
-use Rattle.std.proofs.Common.{◌≡◌, ℕ, ◌+◌, ◌<◌, ◌≤◌, Bool, true, false, ◌&&◌, eqb, eqb-true, eq-eqb, List, [], ◌∷◌, length, map, Some, filter, slice_index_or, refl, sym, ap, ap₂, subst, ◌∙◌, arith}
-use Rattle.std.proofs.lemmas.{Bool.{and_from, and_parts}, List.FromFn.{length-map-range_with_len}}
+use Rattle.std.proofs.Common.{◌≡◌, ℕ, ◌+◌, ◌<◌, ◌≤◌, Bool, true, false, ◌&&◌, eqb, eqb-true, eq-eqb, List, [], ◌∷◌, length, map, Some, filter, slice_index_or}
+use Rattle.std.proofs.{Common.{refl, sym, ap, ap₂, subst, ◌∙◌, arith}, lemmas.{Bool.{and_from, and_parts}, List.FromFn.{length-map-range_with_len}}}
 use Rattle.std.specs.{List.{AllZip}, Str.{bytes_eq}}
 use Rattle.coinst_words.specs.Usage.{Text}
 use Rattle.kernel_text.proofs.StoredReading.{one_reading}

@@ -1,6 +1,6 @@
 -- The members of the classes of an index: each stanza alone in its class.
-use Rattle.std.proofs.Common.{◌≡◌, ℕ, zero, suc, ◌+◌, ◌<◌, ◌≤◌, Bool, true, ◌&&◌, List, [], ◌∷◌, length, eqb, slice_index_or, inl, inr, refl, sym, ◌∙◌, ap, subst, arith, eq-eqb, eqb-true}
-use Rattle.std.proofs.{lemmas.Bool.{and_parts, and_from, both_ways}, lemmas.Slice.Eq.{bytes_eq-Decides}}
+use Rattle.std.proofs.Common.{◌≡◌, ℕ, zero, suc, ◌+◌, ◌<◌, ◌≤◌, Bool, true, ◌&&◌, List, [], ◌∷◌, length, eqb, slice_index_or, inl, inr, refl, sym, ◌∙◌, ap}
+use Rattle.std.proofs.{Common.{subst, arith, eq-eqb, eqb-true}, lemmas.Bool.{and_parts, and_from, both_ways}, lemmas.Slice.Eq.{bytes_eq-Decides}}
 use Rattle.std.specs.{Ordering.{is_eq}, Str.{bytes_eq}}
 use Rattle.listed.proofs.Lists.{same_bytes, In_flat_cases, In_flat, In_cases, In_none, any_from, any_cases, filter_cases, filter_from}
 use Rattle.kernel_text.specs.{KernelText.{members_of}, Members.{file_members, kernel_members, member_in}, declared.member.Member.{Member}}

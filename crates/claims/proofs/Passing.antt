@@ -1,27 +1,14 @@
 -- A round passes the clause limit where the code says so.
-use Rattle.std.proofs.Common.{◌≡◌, ◌≢◌, ℕ, zero, suc, ◌+◌, ◌<◌, ◌≤◌, Bool, List, [], ◌∷◌, map, Option, Some, None, refl, sym, ap, zero-le, ◌∙◌, arith, inl, inr}
+use Rattle.std.proofs.Common.{◌≡◌, ◌≢◌, ℕ, zero, suc, ◌+◌, ◌<◌, ◌≤◌, Bool, List, [], ◌∷◌, map, Option, Some, None, refl, sym, zero-le, ◌∙◌, arith, inl, inr}
 use Rattle.std.proofs.lemmas.Bool.{cases_lt}
 use Rattle.std.specs.Option.{option_map}
-use Rattle.kernel_rounds.proofs.Reached.{kernel_is_lem}
-use Rattle.listed.proofs.Lists.{In_cases, In_none}
+use Rattle.kernel_rounds.proofs.{Reached.{kernel_is_lem}, Again.{each_none}}
 use Rattle.row_book.proofs.Numbers.{numbers_from, numbers_parts}
 use Rattle.listed.specs.Lists.{In, here, there}
 use Rattle.row_book.specs.{Flattening.{Passed, first_some, passes}, Numbers.{numbers}, Repository.{Repository}, Sound.{SoundRepository}}
 use Rattle.row_book.specs.Rounds.{PassedRound, in_round, limit_at, passed_in_round, round, round_count, rounds}
 use Rattle.claims.specs.Kernel.{PassesOnTheWay, now, later}
-
--- where no value is found, each is absent
-each_none : {A : Type 0} (f : ℕ → Option A) (xs : List ℕ) → first_some (map f xs) ≡ None → (x : ℕ) → In x xs → f x ≡ None
-each_none f [] h x i = absurd (In_none i)
-each_none {A} f (y ∷ ys) h x i = pick (f y) refl h (λ g j. each_none f ys g x j)
-  where
-    pick : (o : Option A) → f y ≡ o → first_some (o ∷ map f ys) ≡ None → (first_some (map f ys) ≡ None → In x ys → f x ≡ None) → f x ≡ None
-    pick None e g more = elim (In_cases i) [ inl s ↦ ap f s ∙ e | inr j ↦ more g j ]
-    pick (Some w) e g more = absurd (let never : ⊥ = cc in never)
-
-map_none : {A B : Type 0} (f : A → B) (o : Option A) → option_map f o ≡ None → o ≡ None
-map_none f None h = refl
-map_none f (Some x) h = absurd (let never : ⊥ = cc in never)
+use Rattle.listed.proofs.Bools.{map_none}
 
 all_within : (limit : ℕ) (hold : Bool) (R : Repository) → limit_at limit hold R ≡ None → (j : ℕ) → j ≤ round_count limit hold R → passes limit hold (rounds limit hold R j) ≡ None
 unfolding limit_at

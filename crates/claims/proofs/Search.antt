@@ -4,6 +4,7 @@ use Rattle.std.specs.{Prelude.{◌↔◌, is_some, if◌then◌else◌}, List.{f
 use Rattle.search_terms.specs.{declared.literals.Literal.{Literal}, Closure.{literal, IsClosure, InClosure}}
 use Rattle.search_terms.specs.{Tree.{Tree, IsTree, IsFoundLeaf, IsSplit, failed_leaves, found_of, is_undecided}, Tree.Tree.{failed_leaf, found_leaf, split}}
 use Rattle.claims.specs.{Search.{class_to_split, SplitsOn, Searched, failed, found, found_first, tried_both}, Laws.{TreesAreSearches, SearchesAreOne}}
+use Rattle.listed.proofs.Bools.{same_bool}
 
 set_from : (formula : List (List Literal)) (ds : List Literal) (set : Literal → Bool) → IsClosure formula ds set → (l : Literal) → (set l ≡ true) ↔ InClosure formula ds l
 set_from formula ds set c l = (c.sound l, c.whole l)
@@ -40,18 +41,12 @@ searched classes formula ds (split c left right) s =
 pub trees_are_searches : TreesAreSearches
 trees_are_searches classes formula tree t = searched classes formula [] tree t
 
--- one class is asked for
-same_set : (a b : Bool) → (a ≡ true → b ≡ true) → (b ≡ true → a ≡ true) → a ≡ b
-same_set true b f g = sym (f refl)
-same_set false true f g = g refl
-same_set false false f g = refl
-
 splits_on_one : (formula : List (List Literal)) (ds : List Literal) (x y : Option ℕ) → SplitsOn formula ds x → SplitsOn formula ds y → x ≡ y
 splits_on_one formula ds x y a b =
     let first = a.1 in
     let second = b.1 in
     let each : (l : Literal) → first.0 l ≡ second.0 l
-    = λ l. same_set (first.0 l) (second.0 l) (λ e. (second.1 l).1 ((first.1 l).0 e)) (λ e. (first.1 l).1 ((second.1 l).0 e)) in
+    = λ l. same_bool (first.0 l) (second.0 l) (λ e. (second.1 l).1 ((first.1 l).0 e)) (λ e. (first.1 l).1 ((second.1 l).0 e)) in
     let same : first.0 ≡ second.0 = λ i l. each l i in
     sym first.2 ∙ ap (λ set. class_to_split set formula) same ∙ second.2
 

@@ -1,6 +1,7 @@
 -- The own packages of a status file, by its groups of lines.
-use Rattle.std.proofs.Common.{◌≡◌, ℕ, zero, suc, ◌+◌, ◌<◌, true, false, not, cond, ◌&&◌, ◌||◌, List, [], ◌∷◌, Option, Some, None, Result, Ok, Err, filter, length, map, slice_index_or, refl, sym, ap, ap₂, subst, ◌∙◌, arith, inl, inr}
-use Rattle.std.proofs.{lemmas.Bool.Decides.{nat_tests}, lemmas.List.Sums.{sum_by-cons}}
+use Rattle.std.proofs.Common.{◌≡◌, ℕ, zero, suc, ◌+◌, ◌<◌, true, false, not, cond, ◌&&◌, ◌||◌, List, [], ◌∷◌, Option, Some, None, Result, Ok, Err, filter}
+use Rattle.std.proofs.{Common.{length, map, slice_index_or, refl, sym, ap, ap₂, subst, ◌∙◌, arith, inl, inr}, lemmas.Bool.Decides.{nat_tests}}
+use Rattle.std.proofs.lemmas.List.Sums.{sum_by-cons}
 use Rattle.std.specs.{Prelude.{codes, count_by, nat_lt, unwrap_or}, List.{AllZip}, Option.{option_map, option_map_or, option_or}, Result.{result_err}}
 use Rattle.std.specs.Str.{bytes_eq}
 use Rattle.coinst_words.specs.Usage.{Text}

@@ -1,9 +1,9 @@
 -- Which jobs the words of the two commands ask for.
-use Rattle.std.proofs.Common.{◌≡◌, ℕ, ◌+◌, ◌^◌, ◌<◌, ◌≤◌, Bool, true, false, cond, ◌&&◌, List, [], ◌∷◌, ◌++◌, Option, Some, None, length, refl, sym, ap, ◌∙◌, subst, inl, inr, ◌⊎◌, arith, length-append, lit<}
-use Rattle.std.proofs.lemmas.Fmt.{decimal_is_IsNumeral}
+use Rattle.std.proofs.Common.{◌≡◌, ℕ, ◌+◌, ◌^◌, ◌<◌, ◌≤◌, Bool, true, false, cond, ◌&&◌, List, [], ◌∷◌, ◌++◌, Option, Some, None, length, refl, sym, ap, ◌∙◌}
+use Rattle.std.proofs.{Common.{subst, inl, inr, ◌⊎◌, arith, length-append, lit<}, lemmas.Fmt.{decimal_is_IsNumeral}}
 use Rattle.std.specs.{Prelude.{codes, is_some, unwrap_or, option_and_then, option_map}, Fmt.{decimal, digits}, Str.Parse.{digits_value}}
-use Rattle.coinst_words.specs.Usage.{Usage, Said, Meaning, ends, flag, gives, asks, plain, refused, nothing_said, meaning_of, value_of, give, say, read_word, read, Text}
-use Rattle.coinst_words.specs.Words.{is_path, is_number, is_within, number_or, clause_limit_of, budget_of, two_paths}
+use Rattle.coinst_words.specs.Usage.{Usage, Said, Meaning, ends, flag, gives, asks, plain, refused, nothing_said, meaning_of, value_of, give, say, read_word}
+use Rattle.coinst_words.specs.{Usage.{read, Text}, Words.{is_path, is_number, is_within, number_or, clause_limit_of, budget_of, two_paths}}
 use Rattle.coinst_words.specs.Jobs.{Options, kernel_usage, compare_usage, options_by, settings_by, kernel_job, compare_job, job_of_said}
 use Rattle.coinst_words.specs.{declared.job.Job.{Job}, declared.job.Settings.{Settings}, declared.job.Job.TheVariants.{Kernel, Compare}}
 use Rattle.claims.specs.Laws.{KernelWordsAsk, CompareWordsAsk, WordsAreTaken}

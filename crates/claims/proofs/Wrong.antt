@@ -1,8 +1,9 @@
 -- Reports of which the sentences are not true.
 use Rattle.relation_fields.specs.Spelling.{SpellsAlternatives, SpellsAtom}
-use Rattle.suite_compare.specs.{Indexes.{SearchedIndex}, Listing.{AreInOrder, IsAsked, Precedes, names_of, is_broken}}
+use Rattle.suite_compare.specs.{Indexes.{SearchedIndex}, Listing.{AreInOrder, IsAsked, Precedes, names_of, is_broken, says_open}}
 use Rattle.claims.specs.Settled.{Found}
-use Rattle.std.proofs.Common.{◌≡◌, ℕ, ◌<◌, Bool, true, false, not, cond, ◌||◌, eqb, eqb-true, List, [], ◌∷◌, ◌++◌, Result, Ok, Err, Some, None, length, refl, sym, ap, subst, ◌∙◌, arith, inl, inr, map}
+use Rattle.std.proofs.Common.{◌≡◌, ℕ, ◌<◌, Bool, true, false, not, cond, ◌||◌, eqb, eqb-true, List, [], ◌∷◌, ◌++◌, Result, Ok, Err, Some, None, length, refl}
+use Rattle.std.proofs.Common.{sym, ap, subst, ◌∙◌, arith, inl, inr, map}
 use Rattle.std.specs.{Prelude.{codes, slice_index_or}, Fmt.{digits}, List.{AllZip, list_any}}
 use Rattle.clause_solver.specs.declared.outcomes.Verdict.TheVariants.{Yes, No}
 use Rattle.deb_version.specs.Grammar.{behind_epoch, epoch_of, is_version, revision_in, upstream_in}
@@ -25,7 +26,8 @@ use Rattle.suite_compare.specs.{declared.report.ReportLine.{ReportLine}, declare
 use Rattle.claims.specs.{Answers.{printed_installation, printed_no}, Certificates.{Refutes}, Control.{stanza_groups}, Explained.{PrintedGoal, printed_core}}
 use Rattle.claims.specs.{Goals.{CanMeet, HasEach, all_stanzas}, Index.{GroupsSay, Says}, Plans.{IsMix}, Settled.{IsKernelText}}
 use Rattle.claims.specs.{Laws.{WrongReports, a_class, a_package, as_read, two_classes}, Printed.{comparison_status}, Systems.{IsOwnState, system_status}}
-use Rattle.claims.specs.Sentences.{IsFaithfulAnswer, IsFaithfulExplanation, IsFaithfulKernel, IsFaithfulList, IsFaithfulPlan, IsFaithfulStoredAnswer, IsFaithfulSystem, IsRightStep}
+use Rattle.claims.specs.Sentences.{IsFaithfulAnswer, IsFaithfulExplanation, IsFaithfulKernel, IsFaithfulList, IsFaithfulPlan, IsFaithfulStoredAnswer}
+use Rattle.claims.specs.Sentences.{IsFaithfulSystem, IsRightStep}
 use Rattle.claims.specs.Sentences.IsFaithfulAnswer.{yes as answer_yes, no as answer_no, undecided as answer_undecided}
 use Rattle.claims.specs.Sentences.IsFaithfulStoredAnswer.{yes as classes_yes, no as classes_no, undecided as classes_undecided}
 use Rattle.claims.specs.Sentences.IsFaithfulExplanation.{yes as yes_printed, core as core_printed, undecided as undecided_printed}
@@ -172,7 +174,7 @@ line_twice : (old new : SearchedIndex) (l : ReportLine) → ¬ (IsFaithfulList o
 line_twice old new l k = let order : AreInOrder (l ∷ l ∷ []) = k.lists.order in no_self l (order.0 l here)
 
 broken_done : (l : ReportLine) (lines : List ReportLine) → is_broken l ≡ true → comparison_status (l ∷ lines) ≡ 1
-broken_done l lines e = ap (λ b. cond (b || list_any is_broken lines) 1 (cond (list_any (λ m. not (is_broken m)) (l ∷ lines)) 8 0)) e
+broken_done l lines e = ap (λ b. cond (b || list_any is_broken lines) 1 (cond (list_any says_open (l ∷ lines)) 8 0)) e
 
 -- no goal that is printed
 pub meets_none : (index : SearchedIndex) → CanMeet index []

@@ -1,4 +1,4 @@
--- How an index is searched.
+-- The settings with which an index is searched: those that are given, or else the defaults.
 use Rattle.std.specs.Prelude.{◌≡◌, ℕ, Bool, Option, unwrap_or}
 use Rattle.suite_compare.specs.Indexes.{SearchedIndex}
 

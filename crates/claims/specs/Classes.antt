@@ -1,5 +1,6 @@
 -- The classes of a printed kernel that the stanzas of its index are in.
-use Rattle.std.specs.{Prelude.{◌≡◌, ℕ, ◌<◌, ◌↔◌, Bool, true, ◌&&◌, List, length}, List.{list_any}, Str.{bytes_eq}}
+use Rattle.std.specs.{Prelude.{◌≡◌, ℕ, ◌<◌, ◌↔◌, Bool, true, ◌&&◌, List, length}, List.{list_any}}
+use Rattle.std.specs.Str.{bytes_eq}
 use Rattle.kernel_text.specs.{KernelText.{members_of}, declared.member.Member.{Member}}
 use Rattle.relation_fields.specs.declared.packages.PackageFacts.{PackageFacts}
 use Rattle.repo_model.specs.{Repository.{packages_of}, Stanzas.{stanza_at}}

@@ -1,11 +1,13 @@
 -- Control files: groups of lines, and the fields of a group (Debian Policy 5.1). Lines are between
--- line feeds. It is said once more here, since the definition of `stanza_reader` goes line by line
--- and names the first fault.
-use Rattle.std.specs.Prelude.{◌≡◌, ◌≢◌, true, false, ◌&&◌, nat_lt, List, [], ◌∷◌, ◌++◌, Option, filter, find, map, length, slice_index_or, if◌then◌else◌}
+-- line feeds. This is a second definition, since that of `stanza_reader` goes line by line and
+-- names the first fault.
+use Rattle.std.specs.Prelude.{◌≡◌, ◌≢◌, true, false, ◌&&◌, nat_lt, List, [], ◌∷◌, ◌++◌, Option}
+use Rattle.std.specs.Prelude.{filter, find, map, length, slice_index_or, if◌then◌else◌}
 use Rattle.std.specs.{List.{list_any, slice_split}, Option.{option_map}, Str.{bytes_eq}}
 use Rattle.deb_version.specs.Grammar.{is_colon}
 use Rattle.listed.specs.{Lists.{In}, Texts.{trim_both}}
-use Rattle.stanza_reader.specs.{Fields.{behind_colon, continued, is_field_name, lowered, name_of}, Lines.{is_blank, is_continuation, is_line_feed}}
+use Rattle.stanza_reader.specs.Fields.{behind_colon, continued, is_field_name, lowered, name_of}
+use Rattle.stanza_reader.specs.Lines.{is_blank, is_continuation, is_line_feed}
 use Rattle.coinst_words.specs.Usage.{Text}
 
 -- the groups of lines that follow one another, between the blank ones: those that are empty or have

@@ -1,18 +1,21 @@
 -- What an explanation prints, and what its goals and conflicts are.
 use Rattle.suite_compare.specs.Indexes.{SearchedIndex}
-use Rattle.std.specs.Prelude.{◌≡◌, ◌↔◌, ℕ, ◌<◌, Bool, true, false, List, [], ◌∷◌, ◌++◌, codes, length, map, Option, Some, None, IfSome, unwrap_or, if◌then◌else◌}
+use Rattle.std.specs.Prelude.{◌≡◌, ◌↔◌, ℕ, ◌<◌, Bool, true, false, List, [], ◌∷◌, ◌++◌, codes}
+use Rattle.std.specs.Prelude.{length, map, Option, Some, None, IfSome, unwrap_or, if◌then◌else◌}
 use Rattle.std.specs.{Fmt.{decimal}, List.{AllZip, flat_map}}
 use Rattle.coinst_words.specs.Usage.{Text}
-use Rattle.explain_core.specs.{declared.explanation.Clash.{Clash}, OnStanzas.{HealthyButFor}, Only.{only, pair}, Reasons.{conflicts_reached}}
+use Rattle.explain_core.specs.{declared.explanation.Clash.{Clash}, OnStanzas.{HealthyButFor}}
+use Rattle.explain_core.specs.{Only.{only, pair}, Reasons.{conflicts_reached}}
 use Rattle.kernel_text.specs.KernelLines.{with_feed}
 use Rattle.listed.specs.Lists.{Ascending, In}
 use Rattle.relation_fields.specs.declared.packages.PackageFacts.{PackageFacts}
 use Rattle.repo_model.specs.{Repository.{in_conflict, suite_repository}, Stanzas.{stanza_at}}
 use Rattle.row_book.specs.{Sets.{NumSet}, declared.pair.Pair.{Pair}}
 use Rattle.search_terms.specs.Form.{form}
-use Rattle.claims.specs.{Goals.{CanMeet, HasEach, NamesPackage}, Search.{Searched}, Settled.{IsPastBudget}}
+use Rattle.claims.specs.{Goals.{CanMeet, HasEach, NamesPackage}, Search.{Searched}}
+use Rattle.claims.specs.Settled.{IsPastBudget}
 
--- a goal that is printed, and whether it is open: the search for the others is too long
+-- a goal that is printed; it is open if the search for the other goals is too long
 pub record PrintedGoal : Type 0 where
   pub word : Text
   pub undecided : Bool
@@ -37,10 +40,10 @@ printed_core stanzas kept clashes =
     ++ with_feed (codes "end " ++ decimal (length kept)
     ++ codes " " ++ decimal (length (unwrap_or clashes [])))
 
--- Some items are kept, and the others left out, one after another. The others of an item are those
--- before it that are kept, and all those after it. An item is left out if the search for the others
--- is not too long and there is no solution. It is kept and open if that search is too long; and
--- kept if there is a solution.
+-- One item after another is kept or left out. The others of an item are those before it that are
+-- kept, and all those after it. An item is left out if the search for the others is not too long
+-- and there is no solution. It is kept and open if that search is too long; and kept if there is a
+-- solution.
 pub data AreKept {X Y : Type 0} (item : Y → X) (is_open : Y → Bool)
     (IsLong Could : List X → Type 0) : List X → List X → List Y → Type 0 where
   none : {before : List X} → AreKept item is_open IsLong Could before [] []
@@ -53,7 +56,7 @@ pub data AreKept {X Y : Type 0} (item : Y → X) (is_open : Y → Bool)
       AreKept item is_open IsLong Could (before ++ item y ∷ []) after kept →
       AreKept item is_open IsLong Could before (item y ∷ after) (y ∷ kept)
 
--- The printed goals are kept of those that were asked, and cannot be met.
+-- The printed goals are what is kept of the goals that were asked, and cannot be met together.
 pub record IsCoreOfGoals (s : SearchedIndex) (goals : List Text)
     (kept : List PrintedGoal) : Type 0 where
   pub asked : AreKept (λ g. g.word) (λ g. g.undecided) (IsPastBudget s) (CanMeet s) [] goals kept
@@ -82,7 +85,7 @@ abbrev pub as_clashes : List Pair → List Clash
 as_clashes pairs = map (λ x. record { first = x.low; second = x.high; unsettled = false }) pairs
 
 -- Each pair is of two packages in conflict. If only these were in conflict, the goals could not be
--- met. They are kept of all conflicts within reach of the packages that the goals name.
+-- met. They are what is kept of all conflicts within reach of the packages that the goals name.
 pub record AreReasonsFor (s : SearchedIndex) (goals : List Text) (wanted : List (List ℕ))
     (clashes : List Clash) : Type 0 where
   pub conflicts : (c : Clash) → In c clashes → (c.first < c.second) × (c.second < length s.stanzas)
@@ -92,8 +95,8 @@ pub record AreReasonsFor (s : SearchedIndex) (goals : List Text) (wanted : List 
       (λ pairs. CouldMeet s (as_clashes pairs) goals) []
       (conflicts_reached (suite_repository s.home s.stanzas) wanted) clashes
 
--- The conflicts are open as a whole exactly if the search with all those within reach is too long;
--- and else they are reasons.
+-- The conflicts are open as a whole exactly if the search with all conflicts within reach is too
+-- long. If they are not open as a whole, they are reasons.
 pub record AreConflictsFor (s : SearchedIndex) (goals : List Text)
     (clashes : Option (List Clash)) : Type 0 where
   pub wanted : List (List ℕ)

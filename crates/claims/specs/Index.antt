@@ -1,9 +1,11 @@
 -- What an index says of its packages: Debian Policy 5.3 and 7. The home is the common architecture
--- of its stanzas. It is said once more here, since the definition of `repo_model` names the first
--- fault, in the order of reading.
-use Rattle.relation_fields.specs.{Spelling.{SpellsAlternatives, SpellsAtom, SpellsProvide}, Grammar.{is_architecture}, declared.packages.Home.{Home}}
+-- of its stanzas. This is a second definition, since that of `repo_model` names the first fault, in
+-- the order of reading.
+use Rattle.relation_fields.specs.Spelling.{SpellsAlternatives, SpellsAtom, SpellsProvide}
+use Rattle.relation_fields.specs.{Grammar.{is_architecture}, declared.packages.Home.{Home}}
 use Rattle.relation_fields.specs.declared.packages.PackageFacts.{PackageFacts}
-use Rattle.std.specs.Prelude.{◌≡◌, ◌≢◌, ℕ, ◌<◌, Bool, true, false, not, ◌&&◌, ◌==◌, ◌⊎◌, List, [], ◌++◌, Some, filter, length, codes, unwrap_or}
+use Rattle.std.specs.Prelude.{◌≡◌, ◌≢◌, ℕ, ◌<◌, Bool, true, false, not, ◌&&◌, ◌==◌, ◌⊎◌, List, []}
+use Rattle.std.specs.Prelude.{◌++◌, Some, filter, length, codes, unwrap_or}
 use Rattle.std.specs.{List.{AllZip, list_all, slice_split}, Ordering.{is_eq}, Str.{bytes_eq}}
 use Rattle.deb_version.specs.{Grammar.{is_version}, Names.{is_name}, Order.{version_order}}
 use Rattle.listed.specs.{Lists.{In}, Texts.{is_white_byte}}
@@ -14,7 +16,7 @@ use Rattle.coinst_words.specs.Usage.{Text}
 -- the elements of a relation field: what is between its commas, 44, but for white space alone; a
 -- missing field has none
 abbrev pub relation_elements : Text → List Text → List Text
-relation_elements key group = filter (λ element. not (list_all is_white_byte element))
+relation_elements key group = filter (λ e. not (list_all is_white_byte e))
     (slice_split (λ b. b == 44) (unwrap_or (field_value key group) []))
 
 -- one package: the same name, and versions that compare as equal
@@ -53,8 +55,7 @@ pub record GroupsSay (groups : List (List Text)) (home : Home)
       is_one_package (stanza_at stanzas n).name (stanza_at stanzas n).version
       (stanza_at stanzas m).name (stanza_at stanzas m).version ≡ false
   pub local : (a : Text) → home.name ≡ Some a → (a ≢ codes "all")
-      × ((group : List Text) × In group groups
-      × (field_value (codes "architecture") group ≡ Some a))
+      × ((g : List Text) × In g groups × (field_value (codes "architecture") g ≡ Some a))
 
 -- the text is an index of these packages
 abbrev pub IndexSays : Text → Home → List PackageFacts → Type 0

@@ -1,7 +1,8 @@
--- The kernel of a repository, and the images of sets of packages in it. It is said once more here,
--- since the kernel of `row_book` is computed with a bound for the number of rounds.
+-- The kernel of a repository, and the images of sets of packages in it. This is a second
+-- definition, since that of `row_book` computes the kernel, with a bound for the number of rounds.
 use Rattle.std.specs.Prelude.{◌≡◌, ◌≢◌, ℕ, Bool, List, map, Some}
-use Rattle.row_book.specs.{Flattening.{flat, Passed, passes}, Merging.{image}, Repository.{Repository}, Rounds.{round}, Sets.{NumSet}}
+use Rattle.row_book.specs.{Flattening.{flat, Passed, passes}, Merging.{image}}
+use Rattle.row_book.specs.{Repository.{Repository}, Rounds.{round}, Sets.{NumSet}}
 
 -- The first that a round leaves as it is, of the repository, its round, the round of that, and so
 -- on. What becomes of sets of packages on the way: the classes that have a member of them.

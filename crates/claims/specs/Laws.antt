@@ -1,24 +1,40 @@
 -- That the short definitions say the same as those that the code keeps.
-use Rattle.relation_fields.specs.{declared.packages.Home.{Home}, declared.packages.PackageFacts.{PackageFacts}}
-use Rattle.suite_compare.specs.{Indexes.{Judged, SearchedIndex, searched}, Listing.{IsAsked, names_of, ListsExactly, is_broken}}
-use Rattle.suite_compare.specs.{Refusals.{home_in, packages_in}, declared.report.ReportLine.{ReportLine}}
-use Rattle.claims.specs.{Settled.{Found, IsKernelText}, Answers.{printed_installation, printed_no}, Control.{stanza_groups}, Explained.{printed_core}}
-use Rattle.claims.specs.{Plans.{IsMix}, Systems.{is_own_group}, Goals.{all_stanzas}, Index.{GroupsSay, IndexSays, SaysTheSame}, Kernel.{SettlesTo}}
-use Rattle.claims.specs.{Classes.{classes_of, IsItsClass, IsOneOf}, Words.{asking_words}, Printed.{comparison_status, printed_comparison}}
-use Rattle.claims.specs.Sentences.{IsFaithfulAnswer, IsFaithfulExplanation, IsFaithfulKernel, IsFaithfulList, IsFaithfulPlan, IsFaithfulStoredAnswer, IsFaithfulSystem}
-use Rattle.claims.specs.Search.{Searched}
-use Rattle.std.specs.Prelude.{◌≡◌, ◌↔◌, ◌<◌, ◌≤◌, codes, length, false, true, Option, Some, unwrap_or, ℕ, Bool, List, [], ◌∷◌, ◌++◌, None, is_some, map, filter}
+use Rattle.relation_fields.specs.declared.packages.Home.{Home}
+use Rattle.relation_fields.specs.declared.packages.PackageFacts.{PackageFacts}
+use Rattle.suite_compare.specs.Indexes.{Judged, SearchedIndex, searched}
+use Rattle.suite_compare.specs.Listing.{IsAsked, names_of, ListsExactly, is_broken}
+use Rattle.suite_compare.specs.Refusals.{home_in, packages_in}
+use Rattle.suite_compare.specs.declared.report.ReportLine.{ReportLine}
+use Rattle.claims.specs.{Settled.{Found, IsKernelText}, Answers.{printed_installation, printed_no}}
+use Rattle.claims.specs.{Control.{stanza_groups}, Explained.{printed_core}, Plans.{IsMix}}
+use Rattle.claims.specs.{Systems.{is_own_group}, Goals.{all_stanzas}}
+use Rattle.claims.specs.{Index.{GroupsSay, IndexSays, SaysTheSame}, Kernel.{SettlesTo}}
+use Rattle.claims.specs.{Classes.{classes_of, IsItsClass, IsOneOf}, Words.{asking_words}}
+use Rattle.claims.specs.Printed.{comparison_status, printed_comparison}
+use Rattle.claims.specs.Sentences.{IsFaithfulAnswer, IsFaithfulExplanation, IsFaithfulKernel}
+use Rattle.claims.specs.Sentences.{IsFaithfulList, IsFaithfulPlan, IsFaithfulStoredAnswer}
+use Rattle.claims.specs.{Sentences.{IsFaithfulSystem}, Search.{Searched}}
+use Rattle.std.specs.Prelude.{◌≡◌, ◌↔◌, ◌<◌, ◌≤◌, codes, length, false, true, Option, Some}
+use Rattle.std.specs.Prelude.{unwrap_or, ℕ, Bool, List, [], ◌∷◌, ◌++◌, None, is_some, map, filter}
 use Rattle.std.specs.List.{AllZip}
 use Rattle.clause_solver.specs.declared.outcomes.Verdict.TheVariants.{Yes, No}
-use Rattle.coinst_words.specs.{Usage.{Text}, Jobs.{job_of}, declared.job.Job.{Job}, declared.job.Job.TheVariants.{Kernel, Compare}}
-use Rattle.repo_model.specs.{Limits.{most_packages}, Facts.{facts_of}, Repository.{suite_repository}, FirstFault.{first_fault, home_of, stanzas_of}}
+use Rattle.coinst_words.specs.{Usage.{Text}, Jobs.{job_of}, declared.job.Job.{Job}}
+use Rattle.coinst_words.specs.declared.job.Job.TheVariants.{Kernel, Compare}
+use Rattle.repo_model.specs.{Limits.{most_packages}, Facts.{facts_of}}
+use Rattle.repo_model.specs.Repository.{suite_repository}
+use Rattle.repo_model.specs.FirstFault.{first_fault, home_of, stanzas_of}
 use Rattle.repo_model.specs.Stanzas.{stanza_at, CoinstStanzas, HealthyStanzas}
 use Rattle.listed.specs.Lists.{In}
-use Rattle.migrate_plan.specs.{declared.plan.PlanLine.{PlanLine}, declared.plan.PlanLine.TheVariants.{Take}}
-use Rattle.kernel_text.specs.{KernelReads.{KernelReads}, KernelText.{format_of, kernel_text}, Members.{kernel_members}, declared.member.Member.{Member}}
-use Rattle.row_book.specs.{Flattening.{packages}, Rounds.{kernel, kernel_class, kernel_held, kernel_image}, Sound.{SoundRepository}, Sets.{NumSet, Is}}
+use Rattle.migrate_plan.specs.declared.plan.PlanLine.{PlanLine}
+use Rattle.migrate_plan.specs.declared.plan.PlanLine.TheVariants.{Take}
+use Rattle.kernel_text.specs.{KernelReads.{KernelReads}, KernelText.{format_of, kernel_text}}
+use Rattle.kernel_text.specs.{Members.{kernel_members}, declared.member.Member.{Member}}
+use Rattle.row_book.specs.Flattening.{packages}
+use Rattle.row_book.specs.Rounds.{kernel, kernel_class, kernel_held, kernel_image}
+use Rattle.row_book.specs.{Sound.{SoundRepository}, Sets.{NumSet, Is}}
 use Rattle.row_book.specs.Repository.{Repository, Coinst}
-use Rattle.search_terms.specs.{Tree.{Tree, IsTree, failed_leaves, found_of}, declared.literals.Literal.{Literal}}
+use Rattle.search_terms.specs.Tree.{Tree, IsTree, failed_leaves, found_of}
+use Rattle.search_terms.specs.declared.literals.Literal.{Literal}
 
 -- a tree shows how its search ends
 abbrev pub TreesAreSearches : Type 0

@@ -1,12 +1,14 @@
 -- Plans: which names differ between two indexes, and the mixes of the two.
 use Rattle.suite_compare.specs.{Indexes.{SearchedIndex}, Listing.{is_broken}}
-use Rattle.std.specs.{Prelude.{◌≡◌, ℕ, ◌==◌, if◌then◌else◌, not, List, [], ◌++◌, ◌-◌, codes, filter, length, unwrap_or}, Fmt.{decimal}}
-use Rattle.std.specs.{List.{AllZip, flat_map, list_any}, Str.{bytes_eq}}
+use Rattle.std.specs.Prelude.{◌≡◌, ℕ, ◌==◌, if◌then◌else◌, not, List, [], ◌++◌, ◌-◌, codes, filter}
+use Rattle.std.specs.{Prelude.{length, unwrap_or}, Fmt.{decimal}, List.{AllZip, flat_map, list_any}}
+use Rattle.std.specs.Str.{bytes_eq}
 use Rattle.coinst_words.specs.Usage.{Text}
 use Rattle.kernel_text.specs.KernelLines.{with_feed}
 use Rattle.migrate_plan.specs.{Mix.{is_taken}, Plan.{taken_in}, declared.plan.PlanLine.{PlanLine}}
 use Rattle.migrate_plan.specs.declared.plan.PlanLine.TheVariants.{Take, LeftLimit, LeftLine}
-use Rattle.claims.specs.{Control.{field_value, stanza_groups}, Index.{IndexSays, SaysTheSame}, Printed.{printed_line}}
+use Rattle.claims.specs.{Control.{field_value, stanza_groups}, Index.{IndexSays, SaysTheSame}}
+use Rattle.claims.specs.Printed.{printed_line}
 
 -- the packages of the name are not the same in both indexes, one after the other
 abbrev pub Differs : SearchedIndex → SearchedIndex → Text → Type 0

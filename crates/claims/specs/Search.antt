@@ -1,8 +1,11 @@
 -- A search by the rule of Davis, Putnam, Logemann and Loveland, on signed classes: how it goes on
--- below some decisions, and how it ends. It is said once more here, since `search_terms` computes a
--- tree, with a bound for its unit steps.
-use Rattle.std.specs.{Prelude.{◌≡◌, ℕ, ◌+◌, Bool, true, false, ◌↔◌, List, [], ◌∷◌, ◌++◌, Option, Some, None}, List.{find}, Option.{option_and_then, option_map}}
-use Rattle.search_terms.specs.{Closure.{literal, Clashes, InClosure}, Tree.{is_open_need, is_undecided}, declared.literals.Literal.{Literal}}
+-- below some decisions, and how it ends. This is a second definition, since that of `search_terms`
+-- computes a tree, with a bound for its unit steps.
+use Rattle.std.specs.Prelude.{◌≡◌, ℕ, ◌+◌, Bool, true, false, ◌↔◌, List, [], ◌∷◌, ◌++◌, Option}
+use Rattle.std.specs.{Prelude.{Some, None}, List.{find}, Option.{option_and_then, option_map}}
+use Rattle.search_terms.specs.Closure.{literal, Clashes, InClosure}
+use Rattle.search_terms.specs.Tree.{is_open_need, is_undecided}
+use Rattle.search_terms.specs.declared.literals.Literal.{Literal}
 
 -- the class of the first undecided member of the first open need
 abbrev pub class_to_split : (Literal → Bool) → List (List Literal) → Option ℕ
@@ -18,7 +21,7 @@ SplitsOn formula decisions class = (¬ (Clashes formula decisions))
     × (class_to_split set formula ≡ class))
 
 -- A search below decisions: whether it finds something, and how many leaves failed before. A class
--- is first true and then false.
+-- is tried as true first, and then as false.
 pub data Searched (formula : List (List Literal)) : List Literal → Bool → ℕ → Type 0 where
   failed : {ds : List Literal} → Clashes formula ds → Searched formula ds false 1
   found : {ds : List Literal} → SplitsOn formula ds None → Searched formula ds true 0

@@ -3,26 +3,38 @@
 -- a run, of what it read, of its exit status and of the bytes that it printed. What it read is each
 -- file by its path, with its text, in the order of reading. That a report came, and no refusal, is
 -- said by the clause `runs` of `run`, and not here.
-use Rattle.suite_compare.specs.{Indexes.{HasPackageOf, SearchedIndex}, Listing.{ListsExactly}, declared.report.ReportLine.{ReportLine}}
-use Rattle.claims.specs.{Settled.{Found, IsKernelText, IsPastBudget}, Answers.{printed_classes, printed_installation, printed_no, printed_undecided}}
-use Rattle.claims.specs.{Asked.{IsSearched}, Certificates.{HasClassOfEach, IsTooLong, Refutes}, Classes.{classes_of, IsItsClass, IsOneOf}}
-use Rattle.claims.specs.{Control.{IsStanza, stanza_groups}, Explained.{AreConflictsFor, IsCoreOfGoals, PrintedGoal, printed_core}}
-use Rattle.claims.specs.{Goals.{CanMeet, HasEach, all_stanzas}, Index.{GroupsSay, IndexSays}, Kernel.{PassesOnTheWay}}
-use Rattle.claims.specs.{Plans.{Differs, IsMix, plan_status, printed_plan}, Printed.{comparison_status, printed_comparison}}
-use Rattle.claims.specs.Systems.{IsOwnState, goal_word_of, has_package, is_foreign_group, is_own_group, printed_system, system_status}
+use Rattle.suite_compare.specs.{Indexes.{HasPackageOf, SearchedIndex}, Listing.{ListsExactly}}
+use Rattle.suite_compare.specs.declared.report.ReportLine.{ReportLine}
+use Rattle.claims.specs.Settled.{Found, IsKernelText, IsPastBudget}
+use Rattle.claims.specs.Answers.{printed_classes, printed_installation, printed_no}
+use Rattle.claims.specs.{Answers.{printed_undecided}, Asked.{IsSearched}}
+use Rattle.claims.specs.Certificates.{HasClassOfEach, IsTooLong, Refutes}
+use Rattle.claims.specs.Classes.{classes_of, IsItsClass, IsOneOf}
+use Rattle.claims.specs.Control.{IsStanza, stanza_groups}
+use Rattle.claims.specs.Explained.{AreConflictsFor, IsCoreOfGoals, PrintedGoal, printed_core}
+use Rattle.claims.specs.{Goals.{CanMeet, HasEach, all_stanzas}, Index.{GroupsSay, IndexSays}}
+use Rattle.claims.specs.{Kernel.{PassesOnTheWay}, Plans.{Differs, IsMix, plan_status, printed_plan}}
+use Rattle.claims.specs.Printed.{comparison_status, printed_comparison}
+use Rattle.claims.specs.Systems.{IsOwnState, goal_word_of, has_package, is_foreign_group}
+use Rattle.claims.specs.Systems.{is_own_group, printed_system, system_status}
 use Rattle.claims.specs.Words.{AreOrdinary, asking_words, stored_words}
-use Rattle.std.specs.Prelude.{◌≡◌, ℕ, ◌≤◌, ◌↔◌, ◌≢◌, count_by, filter, map, Bool, List, [], ◌∷◌, ◌++◌, length, nat_lt, codes, Option, None, unwrap_or, ◌<◌}
+use Rattle.std.specs.Prelude.{◌≡◌, ℕ, ◌≤◌, ◌↔◌, ◌≢◌, count_by, filter, map, Bool, List, [], ◌∷◌}
+use Rattle.std.specs.Prelude.{◌++◌, length, nat_lt, codes, Option, None, unwrap_or, ◌<◌}
 use Rattle.std.specs.Fmt.{decimal}
 use Rattle.byte_flow.specs.History.{OpenedFile}
 use Rattle.clause_pool.specs.Lists.{InOrder}
 use Rattle.coinst_words.specs.Usage.{Text}
 use Rattle.explain_core.specs.declared.explanation.Clash.{Clash}
-use Rattle.kernel_text.specs.{KernelLines.{with_feed}, KernelReads.{HasOneReading, KernelReads}, declared.member.Member.{Member}}
+use Rattle.kernel_text.specs.{KernelLines.{with_feed}, KernelReads.{HasOneReading, KernelReads}}
+use Rattle.kernel_text.specs.declared.member.Member.{Member}
 use Rattle.listed.specs.Lists.{Ascending, In, has}
-use Rattle.migrate_plan.specs.{Plan.{taken_in}, Promises.{planned_name}, declared.plan.PlanLine.{PlanLine}}
+use Rattle.migrate_plan.specs.{Plan.{taken_in}, Promises.{planned_name}}
+use Rattle.migrate_plan.specs.declared.plan.PlanLine.{PlanLine}
 use Rattle.migrate_plan.specs.declared.plan.PlanLine.TheVariants.{Take, LeftLimit, LeftLine}
-use Rattle.relation_fields.specs.{declared.packages.Home.{Home}, declared.packages.PackageFacts.{PackageFacts}}
-use Rattle.repo_model.specs.{Repository.{suite_repository}, Stanzas.{stanza_at, CoinstStanzas, HealthyStanzas}}
+use Rattle.relation_fields.specs.declared.packages.Home.{Home}
+use Rattle.relation_fields.specs.declared.packages.PackageFacts.{PackageFacts}
+use Rattle.repo_model.specs.Repository.{suite_repository}
+use Rattle.repo_model.specs.Stanzas.{stanza_at, CoinstStanzas, HealthyStanzas}
 use Rattle.row_book.specs.{Repository.{Repository, Coinst, Healthy}, Sets.{NumSet, Is}}
 use Rattle.search_terms.specs.declared.literals.Literal.{Literal}
 use Rattle.status_check.specs.declared.report.OwnState.{OwnState}

@@ -1,12 +1,16 @@
--- Which texts are that of the kernel of an index, and what is found by a search in that text.
+-- Which text stands for the kernel of an index, and what a search for goals in that text finds.
 use Rattle.suite_compare.specs.Indexes.{SearchedIndex}
 use Rattle.std.specs.Prelude.{◌≡◌, ℕ, ◌<◌, List, [], ◌∷◌, length, map}
-use Rattle.clause_solver.specs.{declared.outcomes.Verdict.{Verdict}, declared.outcomes.Verdict.TheVariants.{Yes, No, Spent}}
+use Rattle.clause_solver.specs.declared.outcomes.Verdict.{Verdict}
+use Rattle.clause_solver.specs.declared.outcomes.Verdict.TheVariants.{Yes, No, Spent}
 use Rattle.coinst_words.specs.Usage.{Text}
-use Rattle.kernel_text.specs.{KernelReads.{KernelReads}, KernelText.{format_of}, Members.{kernel_members}, declared.member.Member.{Member}}
+use Rattle.kernel_text.specs.{KernelReads.{KernelReads}, KernelText.{format_of}}
+use Rattle.kernel_text.specs.{Members.{kernel_members}, declared.member.Member.{Member}}
 use Rattle.repo_model.specs.Repository.{packages_of, suite_repository}
-use Rattle.row_book.specs.{Flattening.{held_of}, Repository.{Repository}, Rounds.{Settled}, Sets.{NumSet, Is}}
-use Rattle.claims.specs.{Certificates.{IsTooLong}, Classes.{classes_of}, Goals.{CanMeet}, Index.{IndexSays}, Kernel.{SettlesTo}}
+use Rattle.row_book.specs.{Flattening.{held_of}, Repository.{Repository}, Rounds.{Settled}}
+use Rattle.row_book.specs.Sets.{NumSet, Is}
+use Rattle.claims.specs.{Certificates.{IsTooLong}, Classes.{classes_of}, Goals.{CanMeet}}
+use Rattle.claims.specs.{Index.{IndexSays}, Kernel.{SettlesTo}}
 
 -- The text stands for the kernel of the index, at its limit and with hold or without, in format 2
 -- or 1. The members are the packages of the index, each in its class, and those of a class in the

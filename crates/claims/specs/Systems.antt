@@ -1,15 +1,21 @@
 -- What a dpkg status file says of an installed system, and what is printed of it.
 use Rattle.suite_compare.specs.Indexes.{SearchedIndex}
-use Rattle.std.specs.Prelude.{◌≡◌, ℕ, ◌<◌, ◌≤◌, ◌⊎◌, ◌-◌, Bool, true, false, not, ◌&&◌, ◌||◌, List, [], ◌∷◌, ◌++◌, codes, filter, length, unwrap_or, if◌then◌else◌}
-use Rattle.std.specs.{Fmt.{decimal}, List.{flat_map, list_any}, Option.{option_map_or}, Str.{bytes_eq}}
+use Rattle.std.specs.Prelude.{◌≡◌, ℕ, ◌<◌, ◌≤◌, ◌⊎◌, ◌-◌, Bool, true, false, not, ◌&&◌, ◌||◌, List}
+use Rattle.std.specs.Prelude.{[], ◌∷◌, ◌++◌, codes, filter, length, unwrap_or, if◌then◌else◌}
+use Rattle.std.specs.{Fmt.{decimal}, List.{flat_map, list_any}, Option.{option_map_or}}
+use Rattle.std.specs.Str.{bytes_eq}
 use Rattle.coinst_words.specs.Usage.{Text}
 use Rattle.kernel_text.specs.KernelLines.{with_feed}
 use Rattle.listed.specs.Lists.{In}
-use Rattle.relation_fields.specs.{declared.packages.Home.{Home}, declared.packages.PackageFacts.{PackageFacts}, declared.relations.Atom.{Atom}}
+use Rattle.relation_fields.specs.declared.packages.Home.{Home}
+use Rattle.relation_fields.specs.declared.packages.PackageFacts.{PackageFacts}
+use Rattle.relation_fields.specs.declared.relations.Atom.{Atom}
 use Rattle.repo_model.specs.{Repository.{in_conflict}, Stanzas.{Met, stanza_at, HealthyStanzas}}
-use Rattle.status_check.specs.{Installed.{says_installed, words}, declared.report.OwnState.{OwnState}}
+use Rattle.status_check.specs.Installed.{says_installed, words}
+use Rattle.status_check.specs.declared.report.OwnState.{OwnState}
 use Rattle.status_check.specs.declared.report.OwnState.TheVariants.{Healthy, Unhit, Clash}
-use Rattle.claims.specs.{Control.{field_value}, Explained.{printed_package}, Goals.{all_stanzas}, Index.{is_one_package}}
+use Rattle.claims.specs.{Control.{field_value}, Explained.{printed_package}, Goals.{all_stanzas}}
+use Rattle.claims.specs.Index.{is_one_package}
 
 -- the group is of an installed package: the third of the three words of its status is `installed`
 abbrev pub is_installed_group : List Text → Bool

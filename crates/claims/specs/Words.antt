@@ -1,6 +1,7 @@
 -- The words of the commands, with their options in one order and each number as a word of its own.
 -- `run` takes other spellings too.
-use Rattle.std.specs.{Prelude.{◌≡◌, ℕ, Bool, false, get_or, ◌==◌, List, [], ◌∷◌, ◌++◌, Option, codes, if◌then◌else◌}, Fmt.{decimal}, Option.{option_map_or}}
+use Rattle.std.specs.Prelude.{◌≡◌, ℕ, Bool, false, get_or, ◌==◌, List, [], ◌∷◌, ◌++◌, Option, codes}
+use Rattle.std.specs.{Prelude.{if◌then◌else◌}, Fmt.{decimal}, Option.{option_map_or}}
 use Rattle.listed.specs.Lists.{In}
 use Rattle.coinst_words.specs.Usage.{Text}
 

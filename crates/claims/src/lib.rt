@@ -4,7 +4,12 @@
 //! each is one law.
 #![tactic(auto)]
 
-ghost use Rattle.claims.specs.Laws.{TreesAreSearches, SearchesAreOne, IndexesAreRead, IndexesAreOne, IndexesAreAccepted, KernelsAreKernels, KernelsAreOne, KernelsMeanThis, PrintedKernelsAreFaithful, KernelTextsAreThere, KernelTextsAreOne, KernelWordsAsk, CompareWordsAsk, WordsAreTaken, ComparisonsMeanThis, EmptyIndexes, TrueReports, WrongReports};
+ghost use Rattle.claims.specs.Laws.{TreesAreSearches, SearchesAreOne, IndexesAreRead};
+ghost use Rattle.claims.specs.Laws.{IndexesAreOne, IndexesAreAccepted, KernelsAreKernels};
+ghost use Rattle.claims.specs.Laws.{KernelsAreOne, KernelsMeanThis, PrintedKernelsAreFaithful};
+ghost use Rattle.claims.specs.Laws.{KernelTextsAreThere, KernelTextsAreOne, KernelWordsAsk};
+ghost use Rattle.claims.specs.Laws.{CompareWordsAsk, WordsAreTaken, ComparisonsMeanThis};
+ghost use Rattle.claims.specs.Laws.{EmptyIndexes, TrueReports, WrongReports};
 
 /// A search tree says whether its search finds something, and how many leaves fail before.
 pub fn trees_are_searches()

@@ -1,19 +1,20 @@
 -- What is made of the groups of the packages of a mask is the quotient of their part.
-use Rattle.std.proofs.Common.{◌≡◌, ℕ, suc, ◌<◌, ◌≤◌, ◌+◌, ◌∷◌, [], ◌++◌, true, false, Bool, List, length, get_or, map, replicate, refl, sym, ◌∙◌, ap, ap₂, subst, arith, Result, Ok, Err, IfOk}
-use Rattle.std.proofs.{lemmas.List.{get_or-replicate, length-map, length-replicate, map-append}, lemmas.Simd.{map-map}}
+use Rattle.std.proofs.Common.{◌≡◌, ℕ, suc, ◌<◌, ◌≤◌, ◌+◌, ◌∷◌, [], ◌++◌, true, false, Bool, List, length, get_or, map, replicate, refl, sym, ◌∙◌, ap, ap₂}
+use Rattle.std.proofs.{Common.{subst, arith, Result, Ok, Err, IfOk}, lemmas.List.{get_or-replicate, length-map, length-replicate, map-append}}
+use Rattle.std.proofs.lemmas.Simd.{map-map}
 use Rattle.clause_pool.specs.{Compacting.{RowsOf}, Interned.{Interned, IsPool, row_at}, Clauses.{apart_from, in_row_order, minimal_of}, Lists.{InOrder}}
 use Rattle.clause_pool.proofs.{Clauses.{apart_cases}, Order.{ordered_has, ordered_order, ordered_parts}}
 use Rattle.listed.specs.Lists.{Ascending, In}
-use Rattle.listed.proofs.Lists.{In_at, In_map_cases, filter_cases}
+use Rattle.listed.proofs.Lists.{In_at, In_map_cases, filter_cases, map_alike}
 use Rattle.row_book.specs.{declared.book.Book.{Book}, Book.{repository_of, Sound}, Flags.{flag}, Merging.{class_list, class_of, quotient}, Numbers.{numbers}}
 use Rattle.row_book.specs.{Parts.{number_in, part, place_in}, Repository.{Repository, clauses_of, conflicts_of}, Sound.{SoundRepository, TidyRepository}}
 use Rattle.row_book.specs.Uses.{row_id}
 use Rattle.row_book.proofs.{BookRepositories.{book_size, sound_book, sound_repository}, Books.{clauses_row}, Flags.{flag_in}}
-use Rattle.row_book.proofs.{Numbers.{numbers_count, numbers_more}, PartSound.{part_sound}, Parts.{map_alike, part_of_all, place_all}}
+use Rattle.row_book.proofs.{Numbers.{numbers_count, numbers_more}, PartSound.{part_sound}, Parts.{part_of_all, place_all}}
 use Rattle.row_book.proofs.Repositories.{ranged, repository_same}
 use Rattle.class_merge.specs.{Classes.{image_in, HasClasses}, Grouping.{group_family, AreClasses, AreFamilies, FitsBook, IsTidyBook, IsUnpooled}}
-use Rattle.class_merge.specs.Masks.{against_in_mask, group_clauses, group_conflicts, masked_repository, AreClassesOfPart, IsMasked, IsMaskOfRows, IsQuotientOfPart}
-use Rattle.class_merge.specs.declared.{grouping.Classes.{Classes}, masked.MaskedRows.{MaskedRows}, merging.Families.{Families}}
+use Rattle.class_merge.specs.Masks.{against_in_mask, group_clauses, group_conflicts, masked_repository, AreClassesOfPart, IsMasked, IsMaskOfRows}
+use Rattle.class_merge.specs.{Masks.{IsQuotientOfPart}, declared.{grouping.Classes.{Classes}, masked.MaskedRows.{MaskedRows}, merging.Families.{Families}}}
 use Rattle.class_merge.proofs.{Groups.{flags_size}, Kept.{merge_is_tidy_lem}, Mapped.{image_ascending}}
 use Rattle.class_merge.proofs.{MergedRows.{class_at, list_size, minimal_ordered, rows_tidy}, Quotients.{quotient_of_part_lem}}
 

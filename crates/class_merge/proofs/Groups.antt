@@ -1,5 +1,6 @@
 -- The groups of the packages of a mask, made one after another.
-use Rattle.std.proofs.Common.{◌≡◌, ℕ, zero, suc, ◌<◌, ◌≤◌, ◌+◌, Bool, true, false, List, [], ◌∷◌, ◌++◌, length, get_or, drop, ◌⊎◌, inl, inr, refl, sym, ◌∙◌, ap, ap₂, subst, arith, map, nat_eq, position, Some, None, Result, Ok, Err, IfOk, length-append}
+use Rattle.std.proofs.Common.{◌≡◌, ℕ, zero, suc, ◌<◌, ◌≤◌, ◌+◌, Bool, true, false, List, [], ◌∷◌, ◌++◌, length, get_or, drop, ◌⊎◌, inl, inr, refl, sym, ◌∙◌, ap}
+use Rattle.std.proofs.Common.{ap₂, subst, arith, map, nat_eq, position, Some, None, Result, Ok, Err, IfOk, length-append}
 use Rattle.std.proofs.{lemmas.Bool.{both_ways, cases_eq, cases_lt}, lemmas.List.{get_or-map, get_or_append_left, get_or_default, length-map, map-append}}
 use Rattle.std.specs.Cmp.Lexicographic.{pointwise}
 use Rattle.class_merge.proofs.Places.{place_in, place_none, place_some}

@@ -9,7 +9,8 @@ use Rattle.row_book.proofs.{Books.{in_listed}, Numbers.{at_numbers, length_numbe
 use Rattle.clause_pool.proofs.{Clauses.{apart_cases, apart_in, minimal_of_parts, minimal_below}, Order.{ordered_has, ordered_order, ordered_parts}}
 use Rattle.listed.proofs.{Lists.{In_has, has_In, In_map, In_map_cases, decided_in, filter_cases}, Orders.{ascending_filter, ascending_same}}
 use Rattle.class_merge.specs.Laws.{MergeKeeps, MergeLifts, MergeIsTidy}
-use Rattle.class_merge.proofs.Classes.{class_alike, clause_image_ascending, clause_image_cases, clause_image_in, clause_image_within, has_class_lem, image_from, image_parts, in_classes, members_from, members_parts, of_classes}
+use Rattle.class_merge.proofs.Classes.{class_alike, clause_image_ascending, clause_image_cases, clause_image_in, clause_image_within, has_class_lem, image_from}
+use Rattle.class_merge.proofs.Classes.{image_parts, in_classes, members_from, members_parts, of_classes}
 
 -- the merged repository
 pub merged_size : (R : Repository) → length (quotient R).clauses ≡ length (firsts R)

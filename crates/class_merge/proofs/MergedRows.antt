@@ -2,13 +2,13 @@
 use Rattle.std.proofs.Common.{◌≡◌, ℕ, ◌<◌, true, not, ◌||◌, eqb, List, [], length, sym, ◌∙◌, ap, subst, arith, map, eq-eqb, eqb-true, slice_index_or, ◌↔◌}
 use Rattle.std.proofs.lemmas.List.{get_or-map}
 use Rattle.std.specs.List.{list_all, list_any}
-use Rattle.listed.proofs.{Bools.{same_bool}, Lists.{In_has, any_cases, any_from, filter_same, has_In}}
+use Rattle.listed.proofs.{Bools.{same_bool}, Lists.{In_has, any_cases, any_from, filter_same, has_In, map_alike}}
 use Rattle.clause_pool.specs.{Interned.{Interned, row_at}, Lists.{InOrder}, Clauses.{apart_from, minimal_of, in_row_order}}
 use Rattle.row_book.specs.{Numbers.{numbers}, Uses.{row_id}, Repository.{Repository, Coinst, against, clauses_of, conflicts_of}}
 use Rattle.row_book.specs.{Sound.{SoundRepository, TidyRepository}, Keeping.{KeepsImages}, Book.{RowsTidy}}
 use Rattle.row_book.specs.Merging.{class_clauses, class_conflicts, class_list, class_of, classes, clause_image, firsts, first_of, image, quotient}
 use Rattle.listed.specs.Lists.{In, has, is_inside}
-use Rattle.row_book.proofs.{Numbers.{at_numbers, length_numbers}, Parts.{map_alike}, Repositories.{between, ranged, symmetric}}
+use Rattle.row_book.proofs.{Numbers.{at_numbers, length_numbers}, Repositories.{between, ranged, symmetric}}
 use Rattle.clause_pool.proofs.{Clauses.{minimal_of_from, minimal_of_parts}, Order.{order_filter, order_same, ordered_has, ordered_order, ordered_parts}}
 use Rattle.clause_families.specs.Families.{SameClauses}
 use Rattle.class_merge.specs.Classes.{class_in, clauses_in, image_in}

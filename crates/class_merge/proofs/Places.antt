@@ -1,6 +1,7 @@
 -- The first place at which a test passes, and the place of a list among lists.
-use Rattle.std.proofs.Common.{◌≡◌, ℕ, ◌<◌, ◌≤◌, ◌+◌, Bool, true, false, not, cond, List, [], ◌∷◌, ◌++◌, ◌||◌, map, length, get_or, position, Some, None, nat_eq, nat_lt, if◌then◌else◌, inl, inr, refl, sym, ◌∙◌, ap, ap₂, subst, arith}
-use Rattle.std.proofs.{lemmas.Bool.{both_ways, ltb-false}, lemmas.List.{length-map, map-append}, lemmas.List.Quantifiers.{position-Some}}
+use Rattle.std.proofs.Common.{◌≡◌, ℕ, ◌<◌, ◌≤◌, ◌+◌, Bool, true, false, not, cond, List, [], ◌∷◌, ◌++◌, ◌||◌, map, length, get_or, position, Some, None, nat_eq}
+use Rattle.std.proofs.{Common.{nat_lt, if◌then◌else◌, inl, inr, refl, sym, ◌∙◌, ap, ap₂, subst, arith}, lemmas.Bool.{both_ways, ltb-false}}
+use Rattle.std.proofs.{lemmas.List.{length-map, map-append}, lemmas.List.Quantifiers.{position-Some}}
 use Rattle.std.specs.{List.{prefix_len, position_or_len, list_any}, Cmp.Lexicographic.{pointwise, bytes_decides}}
 use Rattle.clause_pool.specs.Lists.{In}
 use Rattle.clause_pool.proofs.Lists.{In_cases, In_none, In_at}

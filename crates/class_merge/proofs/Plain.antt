@@ -1,9 +1,9 @@
 -- Merging where no two packages are alike.
-use Rattle.std.proofs.Common.{◌≡◌, ◌≢◌, ℕ, zero, suc, ◌<◌, ◌≤◌, ◌+◌, Bool, true, false, cond, List, [], ◌∷◌, length, inl, inr, refl, sym, ◌∙◌, ap, ap₂, subst, arith, map, filter, zero-le, slice_index_or}
-use Rattle.std.proofs.lemmas.Bool.{both_ways, cases_eq, not-true}
+use Rattle.std.proofs.Common.{◌≡◌, ◌≢◌, ℕ, zero, suc, ◌<◌, ◌≤◌, ◌+◌, Bool, true, false, cond, List, [], ◌∷◌, length, inl, inr, refl, sym, ◌∙◌, ap, ap₂, subst}
+use Rattle.std.proofs.{Common.{arith, map, filter, zero-le, slice_index_or}, lemmas.Bool.{both_ways, cases_eq, not-true}}
 use Rattle.std.specs.List.{list_any}
-use Rattle.listed.proofs.{Bools.{same_bool}, Lists.{any_from, filter_cases}, Orders.{ascending_same}}
-use Rattle.listed.specs.Lists.{In, here, there, Ascending}
+use Rattle.listed.proofs.{Bools.{same_bool}, Lists.{any_from, filter_cases, map_own}, Orders.{ascending_same}}
+use Rattle.listed.specs.Lists.{In, Ascending}
 use Rattle.clause_pool.specs.Clauses.{apart_from, minimal_of, in_row_order}
 use Rattle.row_book.specs.{Numbers.{numbers}, Repository.{Repository, against, clauses_of}, Flattening.{packages}, Sound.{SoundRepository}}
 use Rattle.row_book.specs.Merging.{are_alike, is_first, firsts, first_of, class_of, clause_image, quotient}
@@ -83,15 +83,11 @@ image_same R e c a range =
     subst (λ z. In z c) (sym (class_same R e w.0 w.1) ∙ w.3) w.2)
     (λ n i. subst (λ z. In z (clause_image R c)) (class_same R e n (range n i)) (clause_image_in R c n (range n i) i))
 
-map_id : {A : Type 0} (f : A → A) (xs : List A) → ((x : A) → In x xs → f x ≡ x) → map f xs ≡ xs
-map_id f [] e = refl
-map_id f (x ∷ xs) e = ap₂ (λ y ys. y ∷ ys) (e x here) (map_id f xs (λ y i. e y (there i)))
-
 pub merge_plain_lem : MergePlain
 merge_plain_lem R s e p l =
     let f : first_of R p ≡ p = first_same R e p l in
     let images : map (clause_image R) (clauses_of R (first_of R p)) ≡ clauses_of R p =
-    ap (λ k. map (clause_image R) (clauses_of R k)) f ∙ map_id (clause_image R) (clauses_of R p) (λ c i. image_same R e c (s.clauses p c i).0 (s.clauses p c i).1) in
+    ap (λ k. map (clause_image R) (clauses_of R k)) f ∙ map_own (clause_image R) (clauses_of R p) (λ c i. image_same R e c (s.clauses p c i).0 (s.clauses p c i).1) in
     record { class = class_same R e p l; clauses = merged_clauses R p (subst (λ n. p < n) (sym e) l) ∙ ap (λ cs. in_row_order (minimal_of (apart_from p cs))) images }
 
 -- and the conflicts stay

@@ -7,13 +7,13 @@ use Rattle.class_merge.proofs.{Classes.{Alike, alike_from, alike_sym}, Groups.{c
 use Rattle.class_merge.proofs.MergedRows.{class_at, clauses_at_class, conflicts_at, merged_lists, merged_table}
 use Rattle.clause_pool.specs.Clauses.{apart_from, in_row_order, minimal_of}
 use Rattle.listed.specs.Lists.{In, here, there}
-use Rattle.listed.proofs.{Lists.{In_at, In_map, In_map_cases, any_cases, filter_cases, filter_from, filter_same}, Orders.{ascending_same}}
+use Rattle.listed.proofs.{Lists.{In_at, In_map, In_map_cases, any_cases, filter_cases, filter_from, filter_same, map_alike}, Orders.{ascending_same}}
 use Rattle.row_book.specs.{Flags.{flag}, Flattening.{packages}, Numbers.{numbers}, Repository.{Repository, clauses_of, conflicts_of}, Sound.{SoundRepository}}
 use Rattle.row_book.specs.Merging.{are_alike, class_clauses, class_conflicts, class_list, class_of, firsts, first_of, is_first}
 use Rattle.row_book.specs.Parts.{clause_in, clauses_in, number_in, numbers_up, part, place_in}
 use Rattle.row_book.proofs.{Numbered.{clause_home, clauses_home}, Numbers.{numbers_parts}, PartSound.{part_sound}}
-use Rattle.row_book.proofs.Parts.{map_alike, part_clauses, part_conflicts, part_count}
-use Rattle.row_book.proofs.{Placed.{at_place, count_in, place_below, place_rises, places_ascending, HasPlace}, Repositories.{in_packages, of_packages}}
+use Rattle.row_book.proofs.{Parts.{part_clauses, part_conflicts, part_count}, Placed.{at_place, count_in, place_below, place_rises, places_ascending, HasPlace}}
+use Rattle.row_book.proofs.Repositories.{in_packages, of_packages}
 use Rattle.class_merge.specs.Masks.{against_in_mask, group_clauses, group_conflicts, AlikeInMask, AreGrouped, IsMasked, IsQuotientOfPart, QuotientOfPart}
 
 -- images by two lists of classes that tell the same, each in its own numbers

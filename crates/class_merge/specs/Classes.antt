@@ -1,5 +1,6 @@
--- Merging from a list of the least packages and a list of the classes.
-use Rattle.std.specs.{Prelude.{ℕ, ◌<◌, eqb, List, map, filter, length, slice_index_or}, List.{list_any}}
+-- Merging, by a list of the least package of each class and a list of the class of each package.
+use Rattle.std.specs.Prelude.{ℕ, ◌<◌, eqb, List, map, filter, length, slice_index_or}
+use Rattle.std.specs.List.{list_any}
 use Rattle.row_book.specs.Numbers.{numbers}
 use Rattle.listed.specs.Lists.{In}
 use Rattle.clause_pool.specs.Clauses.{apart_from, minimal_of, in_row_order}

@@ -1,12 +1,17 @@
 -- for the bodies of this crate alone
 -- What a grouping of packages by their rows and conflicts returns.
-use Rattle.std.specs.Prelude.{◌≡◌, ℕ, ◌<◌, ◌≤◌, ◌⊎◌, List, [], ◌∷◌, ◌++◌, filter, length, map, slice_index_or}
-use Rattle.clause_pool.specs.{Clauses.{apart_from, in_row_order, minimal_of}, Interned.{Interned}, Lists.{InOrder}}
-use Rattle.row_book.specs.{declared.book.Book.{Book}, Book.{listed_for, repository_of, RowsTidy, Sound}, Flags.{flag}, Parts.{number_in}}
-use Rattle.row_book.specs.{Repository.{Repository, clauses_of}, Sound.{TidyRepository}, Uses.{row_id}}
+use Rattle.std.specs.Prelude.{◌≡◌, ℕ, ◌<◌, ◌≤◌, ◌⊎◌, List, [], ◌∷◌, ◌++◌, filter, length, map}
+use Rattle.std.specs.Prelude.{slice_index_or}
+use Rattle.clause_pool.specs.{Clauses.{apart_from, in_row_order, minimal_of}, Interned.{Interned}}
+use Rattle.clause_pool.specs.Lists.{InOrder}
+use Rattle.row_book.specs.declared.book.Book.{Book}
+use Rattle.row_book.specs.{Book.{listed_for, repository_of, RowsTidy, Sound}, Flags.{flag}}
+use Rattle.row_book.specs.{Parts.{number_in}, Repository.{Repository, clauses_of}}
+use Rattle.row_book.specs.{Sound.{TidyRepository}, Uses.{row_id}}
 use Rattle.listed.specs.Lists.{Ascending, In}
 use Rattle.class_merge.specs.{Classes.{image_in}, Masks.{masked_repository, AreGrouped}}
-use Rattle.class_merge.specs.declared.{grouping.Classes.{Classes}, masked.MaskedRows.{MaskedRows}, merging.Families.{Families}}
+use Rattle.class_merge.specs.declared.{grouping.Classes.{Classes}, masked.MaskedRows.{MaskedRows}}
+use Rattle.class_merge.specs.declared.{merging.Families.{Families}}
 
 -- the row of a package and its conflicts with packages of the mask; packages of the mask that agree
 -- in these are alike

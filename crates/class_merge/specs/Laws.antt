@@ -1,6 +1,7 @@
 -- The laws of merging.
 use Rattle.std.specs.Prelude.{◌≡◌, ℕ, ◌<◌, true, List, length, ◌↔◌}
-use Rattle.row_book.specs.{Sets.{NumSet}, Repository.{Repository, Coinst, Healthy, clauses_of}, Sound.{OfPackages, SoundRepository, TidyRepository}}
+use Rattle.row_book.specs.{Sets.{NumSet}, Repository.{Repository, Coinst, Healthy, clauses_of}}
+use Rattle.row_book.specs.Sound.{OfPackages, SoundRepository, TidyRepository}
 use Rattle.row_book.specs.Merging.{are_alike, class_of, firsts, first_of, image, members, quotient}
 use Rattle.clause_pool.specs.Clauses.{apart_from, minimal_of, in_row_order}
 

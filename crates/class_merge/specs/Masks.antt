@@ -1,11 +1,14 @@
--- A mask over the packages of a repository, and its packages grouped by their clauses and by their
--- conflicts with each other. All are in the numbers of all packages.
+-- A mask chooses packages of a repository. These are grouped by their clauses and by their
+-- conflicts with each other. They keep their numbers among all packages.
 use Rattle.std.specs.Prelude.{◌≡◌, ℕ, ◌<◌, Bool, true, List, filter, length, map}
 use Rattle.clause_pool.specs.{Compacting.{RowsOf}, Interned.{IsPool, row_at}, Lists.{InOrder}}
 use Rattle.listed.specs.Lists.{Ascending, In}
-use Rattle.row_book.specs.{Flags.{flag}, Merging.{class_of, quotient}, Numbers.{numbers}, Parts.{number_in, part, place_in}}
-use Rattle.row_book.specs.{Repository.{Repository, clauses_of, conflicts_of}, Sound.{SoundRepository}}
-use Rattle.class_merge.specs.{Classes.{class_in, clauses_in, image_in}, declared.masked.MaskedRows.{MaskedRows}}
+use Rattle.row_book.specs.{Flags.{flag}, Merging.{class_of, quotient}, Numbers.{numbers}}
+use Rattle.row_book.specs.Parts.{number_in, part, place_in}
+use Rattle.row_book.specs.Repository.{Repository, clauses_of, conflicts_of}
+use Rattle.row_book.specs.Sound.{SoundRepository}
+use Rattle.class_merge.specs.Classes.{class_in, clauses_in, image_in}
+use Rattle.class_merge.specs.declared.masked.MaskedRows.{MaskedRows}
 
 -- a flag for each package, up if it is in the mask; the clauses of those in the mask are in order
 -- and name no others

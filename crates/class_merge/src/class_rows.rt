@@ -1,9 +1,12 @@
 //! The rows of classes and their conflicts.
-ghost use Rattle.std.specs.Prelude.{◌≡◌, ◌<◌, ◌∷◌, ◌++◌, [], ℕ, List, IfOk, OnOk, cond, filter, length, map};
-ghost use Rattle.clause_pool.specs.{Interned.{clauses_at, row_at, IsPool, Kept, OfPool}, Clauses.{apart_from, in_row_order, minimal_of}};
+ghost use Rattle.std.specs.Prelude.{◌≡◌, ◌<◌, ◌∷◌, ◌++◌, [], ℕ, List, IfOk, OnOk, cond, filter};
+ghost use Rattle.std.specs.Prelude.{length, map};
+ghost use Rattle.clause_pool.specs.Interned.{clauses_at, row_at, IsPool, Kept, OfPool};
+ghost use Rattle.clause_pool.specs.Clauses.{apart_from, in_row_order, minimal_of};
 ghost use Rattle.row_book.specs.{Flags.{flag}, Numbers.{numbers}};
 ghost use Rattle.listed.specs.Lists.{has, In};
-ghost use Rattle.class_merge.specs.{Classes.{image_in, HasClasses}, Grouping.{group_family, AreClasses, AreFamilies}};
+ghost use Rattle.class_merge.specs.Classes.{image_in, HasClasses};
+ghost use Rattle.class_merge.specs.Grouping.{group_family, AreClasses, AreFamilies};
 ghost use Rattle.class_merge.specs.Masks.{group_conflicts, masked_repository, IsMaskOfRows};
 
 use crate::grouping::Classes;

@@ -1,10 +1,12 @@
 //! The groups of packages of a mask that are alike. In a pool equal rows have one number, so
 //! packages have the same clauses exactly if they have the same row: a key of numbers is compared,
 //! and no clause.
-ghost use Rattle.std.specs.{Prelude.{◌≡◌, ◌<◌, ◌∷◌, ◌++◌, [], ℕ, List, IfOk, OnOk, cond, filter, length, map, nat_eq, position}, Cmp.Lexicographic.{pointwise}};
+ghost use Rattle.std.specs.Prelude.{◌≡◌, ◌<◌, ◌∷◌, ◌++◌, [], ℕ, List, IfOk, OnOk, cond, filter};
+ghost use Rattle.std.specs.{Prelude.{length, map, nat_eq, position}, Cmp.Lexicographic.{pointwise}};
 ghost use Rattle.listed.specs.Lists.{In};
 ghost use Rattle.row_book.specs.Flags.{flag};
-ghost use Rattle.class_merge.specs.{Grouping.{key_of, AreClasses, IsPlaceAmong}, Masks.{IsMaskOfRows}};
+ghost use Rattle.class_merge.specs.Grouping.{key_of, AreClasses, IsPlaceAmong};
+ghost use Rattle.class_merge.specs.Masks.{IsMaskOfRows};
 
 use crate::key_table::KeyTable;
 use crate::masked::MaskedRows;

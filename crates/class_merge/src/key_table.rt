@@ -1,5 +1,6 @@
 //! The keys of packages that were seen, each once.
-ghost use Rattle.std.specs.{Prelude.{◌≡◌, ◌∷◌, ◌++◌, [], IfOk, None, OnErr, length, nat_eq, position}, Cmp.Lexicographic.{pointwise}};
+ghost use Rattle.std.specs.Prelude.{◌≡◌, ◌∷◌, ◌++◌, [], IfOk, None, OnErr, length, nat_eq};
+ghost use Rattle.std.specs.{Prelude.{position}, Cmp.Lexicographic.{pointwise}};
 
 use indexmap::IndexSet;
 use std::alloc::{AllocError, Global};

@@ -18,4 +18,4 @@ pub use merging::{Merged, merge, merge_chosen};
 pub use key_table::KeyTable;
 
 // Laws.
-pub use laws::{has_class, merge_is_tidy, merge_keeps, merge_lifts, merge_plain, quotient_of_part};
+pub use laws::{has_class, merge_is_tidy, merge_keeps, merge_lifts, quotient_of_part};

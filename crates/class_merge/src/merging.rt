@@ -1,9 +1,11 @@
 //! Merging of a book, and of packages of a mask.
 ghost use Rattle.std.specs.Prelude.{◌≡◌, true, IfOk, length, replicate};
 ghost use Rattle.clause_pool.specs.Interned.{IsPool, Kept};
-ghost use Rattle.row_book.specs.{Book.{repository_of, RowsTidy, Sound}, Keeping.{KeepsImages}, Merging.{class_list, image, quotient}, Parts.{part}};
+ghost use Rattle.row_book.specs.{Book.{repository_of, RowsTidy, Sound}, Keeping.{KeepsImages}};
+ghost use Rattle.row_book.specs.{Merging.{class_list, image, quotient}, Parts.{part}};
 ghost use Rattle.row_book.specs.Repository.{Repository};
-ghost use Rattle.class_merge.specs.{Grouping.{FitsBook, IsTidyBook, IsUnpooled}, Masks.{masked_repository, AreClassesOfPart, IsMaskOfRows}};
+ghost use Rattle.class_merge.specs.Grouping.{FitsBook, IsTidyBook, IsUnpooled};
+ghost use Rattle.class_merge.specs.Masks.{masked_repository, AreClassesOfPart, IsMaskOfRows};
 
 use crate::class_rows::{class_conflicts, class_families, family_rows};
 use crate::grouping::classes_of;

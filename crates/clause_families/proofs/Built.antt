@@ -1,12 +1,14 @@
 -- The tree of a family: what it tells of tests, and how its numbers rise.
-use Rattle.std.proofs.Common.{◌≡◌, ℕ, ◌<◌, ◌≤◌, ◌⊎◌, Bool, true, false, ◌&&◌, ◌||◌, eqb, ltb, cond, List, [], ◌∷◌, inl, inr, refl, sym, ◌∙◌, ap, ap₂, subst, length, arith, eqb-true, suc, ◌+◌, not, add-one, drop, drop-cons, get_or, lt-ltb}
+use Rattle.std.proofs.Common.{◌≡◌, ℕ, ◌<◌, ◌≤◌, ◌⊎◌, Bool, true, false, ◌&&◌, ◌||◌, eqb, ltb, cond, List, [], ◌∷◌, inl, inr, refl, sym, ◌∙◌, ap, ap₂, subst}
+use Rattle.std.proofs.Common.{length, arith, eqb-true, suc, ◌+◌, not, add-one, drop, drop-cons, get_or, lt-ltb}
 use Rattle.std.proofs.lemmas.Bool.{cond-false, cond-true, eqb-false, false_from_ne_true, le-ltb, not_from_false, not_from_true}
 use Rattle.std.specs.List.{list_any}
 use Rattle.listed.specs.Lists.{In, has, here, there, is_inside, Ascending}
 use Rattle.listed.proofs.Lists.{In_none}
 use Rattle.clause_pool.specs.{Lists.{Before, InOrder}, Clauses.{apart_from}}
-use Rattle.clause_families.specs.Branches.{any_of, bare, branch, first_leap, is_empty, later_leaps, no_leap, nodes_of, tree_of, with_clause, Above, BuiltOf, Climbs, Grows, Leap, Standing, Tree, TreeOf}
-use Rattle.clause_families.specs.{Inclusion.{has_shorter, is_within, some_inside}, declared.family_tree.FamilyTree.{FamilyTree}}
+use Rattle.clause_families.specs.Branches.{any_of, bare, branch, first_leap, is_empty, later_leaps, no_leap, nodes_of, tree_of, with_clause, Above, BuiltOf}
+use Rattle.clause_families.specs.{Branches.{Climbs, Grows, Leap, Standing, Tree, TreeOf}, Inclusion.{has_shorter, is_within, some_inside}}
+use Rattle.clause_families.specs.declared.family_tree.FamilyTree.{FamilyTree}
 use Rattle.clause_pool.proofs.Clauses.{inside_at}
 use Rattle.clause_families.proofs.{Families.{inside_length}, Walked.{above_less}}
 

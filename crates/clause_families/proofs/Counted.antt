@@ -1,11 +1,13 @@
 -- How many minimal clauses there are among kept clauses and the unions of two families.
-use Rattle.std.proofs.Common.{◌≡◌, ℕ, zero, suc, ◌<◌, ◌≤◌, ◌+◌, Bool, true, false, not, ◌&&◌, ◌||◌, cond, List, [], ◌∷◌, ◌++◌, ◌⊎◌, length, map, filter, drop, drop-cons, get_or, add-one, inl, inr, refl, sym, ◌∙◌, ap, ap₂, subst, arith, ltb, lt-ltb}
-use Rattle.std.proofs.lemmas.Bool.{and_from, and_parts, both_ways, cases_Bool, cases_lt, cond-true, cond-false, false_from_ne_true, not_from_false, not_from_true, not-true}
-use Rattle.std.proofs.lemmas.List.{length-append}
+use Rattle.std.proofs.Common.{◌≡◌, ℕ, zero, suc, ◌<◌, ◌≤◌, ◌+◌, Bool, true, false, not, ◌&&◌, ◌||◌, cond, List, [], ◌∷◌, ◌++◌, ◌⊎◌, length, map, filter, drop}
+use Rattle.std.proofs.Common.{drop-cons, get_or, add-one, inl, inr, refl, sym, ◌∙◌, ap, ap₂, subst, arith, ltb, lt-ltb}
+use Rattle.std.proofs.lemmas.Bool.{and_from, and_parts, both_ways, cases_Bool, cases_lt, cond-true, cond-false, false_from_ne_true, not_from_false}
+use Rattle.std.proofs.{lemmas.Bool.{not_from_true, not-true}, lemmas.List.{length-append}}
 use Rattle.std.specs.List.{flat_map, list_all, list_any}
 use Rattle.listed.specs.Lists.{In, here, there, Ascending, Inside, has, is_inside}
 use Rattle.listed.proofs.Orders.{ascending_same}
-use Rattle.listed.proofs.Lists.{any_cases, any_from, decided_in, filter_cases, filter_from, filter_same, In_append_cases, In_append_left, In_append_right, In_cases, In_flat, In_flat_cases, In_has, has_In, In_map, In_map_cases, In_none}
+use Rattle.listed.proofs.Lists.{any_cases, any_from, decided_in, filter_cases, filter_from, filter_same, In_append_cases, In_append_left, In_append_right}
+use Rattle.listed.proofs.Lists.{In_cases, In_flat, In_flat_cases, In_has, has_In, In_map, In_map_cases, In_none}
 use Rattle.clause_pool.specs.{Clauses.{comes_before, in_row_order, insert_clause, minimal_of}, Lists.{Before, InOrder}}
 use Rattle.clause_pool.proofs.Order.{before_asym, neither_before, order_filter, order_same, ordered_has, ordered_order, ordered_parts}
 use Rattle.clause_pool.proofs.Clauses.{inside_at, inside_from}

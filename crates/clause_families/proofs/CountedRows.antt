@@ -1,17 +1,17 @@
 -- The count of a row, from the clauses that the row keeps, those that hold the package, and the useful ones.
-use Rattle.std.proofs.Common.{◌≡◌, ◌≢◌, ◌⊎◌, eqb-true, ℕ, Bool, true, false, not, cond, eqb, List, [], ◌∷◌, ◌++◌, ◌+◌, ◌<◌, length, ap₂, append_assoc, filter, get_or, zero, suc, drop, drop-cons, add-one, take, inl, inr, refl, sym, ◌∙◌, ap, subst, arith}
-use Rattle.std.proofs.{lemmas.Bool.{both_ways, cases_Bool, eqb-false, not-true, or_from}, lemmas.List.{length-append}}
+use Rattle.std.proofs.Common.{◌≡◌, ◌≢◌, ◌⊎◌, eqb-true, ℕ, Bool, true, false, not, cond, eqb, List, [], ◌∷◌, ◌++◌, ◌+◌, ◌<◌, length, ap₂, append_assoc, get_or}
+use Rattle.std.proofs.Common.{zero, suc, drop, drop-cons, add-one, take, inl, inr, refl, sym, ◌∙◌, ap, subst, arith}
+use Rattle.std.proofs.lemmas.Bool.{both_ways, cases_Bool, eqb-false, not-true, or_from}
 use Rattle.std.specs.List.{list_any}
 use Rattle.listed.specs.Lists.{In, here, there, has, Ascending, Inside}
-use Rattle.listed.proofs.Lists.{all_at, In_append_cases, In_append_left, In_append_right, In_at, In_cases, In_drop, In_flat, In_flat_cases, In_has, In_none, has_In}
-use Rattle.listed.proofs.Orders.{ascending_same}
+use Rattle.listed.proofs.Lists.{all_at, In_append_cases, In_append_left, In_append_right, In_at, In_cases, In_drop, In_flat, In_flat_cases, In_has, In_none}
+use Rattle.listed.proofs.Lists.{has_In}
 use Rattle.clause_pool.specs.{Lists.{InOrder}, Clauses.{apart_from, minimal_of, in_row_order}}
-use Rattle.clause_pool.proofs.{Clauses.{apart_cases}, Order.{before_asym, order_filter, order_same, ordered_has, ordered_order, ordered_parts}}
+use Rattle.clause_pool.proofs.{Clauses.{apart_cases}, Order.{order_filter, order_same, ordered_has, ordered_order, ordered_parts}}
 use Rattle.clause_families.specs.{Families.{SameClauses, all_unions}, Unions.{clause_without, union_of}}
 use Rattle.clause_families.specs.Counting.{first_at, clauses_cut, is_apart, own_count, rest_of, slice_count, slices, AreParts, HasNumbers}
-use Rattle.clause_families.specs.{Branches.{BuiltOf, TreeOf}, declared.{counting.Parts.{Parts}, family_tree.FamilyTree.{FamilyTree}}}
-use Rattle.clause_families.proofs.{Families.{At, filter_kept, filter_left, taken_at}, Unions.{dropped_from, dropped_parts}}
-use Rattle.clause_families.proofs.Rewritten.{Union, unions_cases, unions_from}
+use Rattle.clause_families.specs.{Branches.{BuiltOf, TreeOf}, declared.{splitting.Parts.{Parts}, family_tree.FamilyTree.{FamilyTree}}}
+use Rattle.clause_families.proofs.{Families.{At, taken_at}, Unions.{dropped_from, dropped_parts}, Rewritten.{Union, unions_cases, unions_from}}
 use Rattle.clause_families.proofs.Counted.{Alone, Joins, all_clauses, alone_slice, count_is, joined, joins, not_twice, unions_of_all}
 
 eq_cases : (m n : ℕ) → (m ≡ n) ⊎ (m ≢ n)
@@ -133,14 +133,6 @@ taken_cases xs i clause c a j =
       | inl k ↦ inl k
       | inr k ↦ elim (In_cases k) [ inl e ↦ inr e | inr n ↦ absurd (In_none n) ]
     ]
-
-pub one_more : (p : List ℕ → Bool) (xs : List (List ℕ)) (i : ℕ) (clause : List ℕ) → At xs i clause → p clause ≡ true →
-    length (filter p (take (i + 1) xs)) ≡ length (filter p (take i xs)) + 1
-one_more p xs i clause a h = ap length (filter_kept p xs i clause a h) ∙ length-append (filter p (take i xs)) (clause ∷ [])
-
-pub none_more : (p : List ℕ → Bool) (xs : List (List ℕ)) (i : ℕ) (clause : List ℕ) → At xs i clause → p clause ≡ false →
-    length (filter p (take (i + 1) xs)) ≡ length (filter p (take i xs))
-none_more p xs i clause a h = ap length (filter_left p xs i clause a h)
 
 pub none_numbers : (test : ℕ → Bool) (xs : List ℕ) → ((k : ℕ) → k < length xs → test (get_or xs k 0) ≡ false) → list_any test xs ≡ false
 none_numbers test [] f = refl

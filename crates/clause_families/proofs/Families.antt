@@ -1,11 +1,14 @@
 -- Families of clauses in scratch space: how they grow, and what they come to.
-use Rattle.std.proofs.Common.{◌≡◌, ◌≢◌, ℕ, zero, suc, ◌<◌, ◌≤◌, ◌+◌, Bool, true, false, not, ◌&&◌, ◌||◌, ltb, cond, List, [], ◌∷◌, ◌++◌, length, get_or, take, map, filter, ◌⊎◌, inl, inr, refl, sym, ◌∙◌, ap, ap₂, subst, arith, append-nil, append_assoc, zero-le, eqb, eqb-true, lt-ltb}
+use Rattle.std.proofs.Common.{◌≡◌, ◌≢◌, ℕ, zero, suc, ◌<◌, ◌≤◌, ◌+◌, Bool, true, false, not, ◌&&◌, ◌||◌, ltb, cond, List, [], ◌∷◌, ◌++◌, length, get_or, take}
+use Rattle.std.proofs.Common.{map, filter, ◌⊎◌, inl, inr, refl, sym, ◌∙◌, ap, ap₂, subst, arith, append-nil, append_assoc, zero-le, eqb, eqb-true, lt-ltb}
 use Rattle.std.proofs.lemmas.Cmp.{ranked}
-use Rattle.std.proofs.lemmas.Bool.{OnTrue_from, false≢true, both_ways, cases_Bool, cases_lt, cond-true, cond-false, false_from_ne_true, and_from, and_parts, not_from_false, not_from_true, ltb-true}
-use Rattle.std.proofs.{lemmas.List.{take_more, map-append}, lemmas.List.Elements.{filter_more}, lemmas.Grind.{flat_map-append}}
+use Rattle.std.proofs.lemmas.Bool.{OnTrue_from, false≢true, both_ways, cases_Bool, cases_lt, cond-true, cond-false, false_from_ne_true, and_from, and_parts}
+use Rattle.std.proofs.{lemmas.Bool.{not_from_false, not_from_true, ltb-true}, lemmas.List.{take_more, map-append, length-append}}
+use Rattle.std.proofs.{lemmas.List.Elements.{filter_more}, lemmas.Grind.{flat_map-append}}
 use Rattle.std.specs.{List.{flat_map, list_all, HoldsAt}, Bool.{OnTrue}, Prelude.{Result, Ok, Err, IfOk}, Result.{is_ok}, List.Sorted.{IsSearchInRange}}
 use Rattle.std.specs.{Ordering.{MatchOrdering, nat_cmp}, declared.cmp.Ordering.TheVariants.{Equal}}
-use Rattle.listed.proofs.Lists.{item_nil, In_append_cases, In_append_left, In_append_right, In_cases, In_has, In_map, In_none, any_from, any_cases, filter_cases, filter_from, filter_same, item_in}
+use Rattle.listed.proofs.Lists.{item_nil, In_append_cases, In_append_left, In_append_right, In_cases, In_has, In_map, In_none, any_from, any_cases}
+use Rattle.listed.proofs.Lists.{filter_cases, filter_from, filter_same, item_in}
 use Rattle.clause_pool.specs.{Interned.{Interned, clause_at, clauses_at, row_at, Kept, OfPool, IsIdOf}, Clauses.{apart_from, minimal_of}}
 use Rattle.clause_pool.proofs.{Lists.{In_at}, Interned.{kept_along, clauses_kept, kept_of_pool}}
 use Rattle.clause_pool.proofs.Clauses.{apart_in, inside_at, inside_from, minimal_of_from, minimal_of_parts}
@@ -57,6 +60,14 @@ filter_left p xs i clause a h =
     ∙ ap (λ z. filter p (take i xs) ++ cond (p z) (z ∷ []) []) a.is
     ∙ ap (λ z. filter p (take i xs) ++ z) (cond-false (p clause) (clause ∷ []) [] h)
     ∙ append-nil (filter p (take i xs))
+
+pub one_more : (p : List ℕ → Bool) (xs : List (List ℕ)) (i : ℕ) (clause : List ℕ) → At xs i clause → p clause ≡ true →
+    length (filter p (take (i + 1) xs)) ≡ length (filter p (take i xs)) + 1
+one_more p xs i clause a h = ap length (filter_kept p xs i clause a h) ∙ length-append (filter p (take i xs)) (clause ∷ [])
+
+pub none_more : (p : List ℕ → Bool) (xs : List (List ℕ)) (i : ℕ) (clause : List ℕ) → At xs i clause → p clause ≡ false →
+    length (filter p (take (i + 1) xs)) ≡ length (filter p (take i xs))
+none_more p xs i clause a h = ap length (filter_left p xs i clause a h)
 
 pub map_at : (f : List ℕ → List ℕ) (xs : List (List ℕ)) (i : ℕ) (clause : List ℕ) → At xs i clause → map f (take (i + 1) xs) ≡ map f (take i xs) ++ f clause ∷ []
 map_at f xs i clause a = ap (map f) (taken_at xs i clause a) ∙ map-append f (take i xs) (clause ∷ [])

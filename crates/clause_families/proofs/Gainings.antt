@@ -1,6 +1,6 @@
 -- Ids in the order of their clauses, and one more of them put into its place.
-use Rattle.std.proofs.Common.{◌≡◌, ◌≢◌, ℕ, zero, suc, ◌<◌, ◌≤◌, ◌+◌, true, false, List, [], ◌∷◌, ◌++◌, inl, inr, sym, ◌∙◌, ap, subst, length, get_or, map, take, drop, arith}
-use Rattle.std.proofs.{lemmas.Bool.{both_ways, cases_Bool, cases_eq, false_from_ne_true}, lemmas.List.{map-append, take-append-drop}}
+use Rattle.std.proofs.Common.{◌≡◌, ◌≢◌, ℕ, zero, suc, ◌<◌, ◌≤◌, ◌+◌, true, false, List, [], ◌∷◌, ◌++◌, inl, inr, sym, ◌∙◌, ap, subst, length, get_or, map, take}
+use Rattle.std.proofs.{Common.{drop, arith}, lemmas.Bool.{both_ways, cases_Bool, cases_eq, false_from_ne_true}, lemmas.List.{map-append, take-append-drop}}
 use Rattle.std.specs.List.{insert}
 use Rattle.clause_pool.specs.{Interned.{Interned, IsPool, OfPool, clause_at, clauses_at}, Lists.{Before, InOrder}, Clauses.{comes_before}}
 use Rattle.clause_pool.proofs.{Lists.{In_at}, Order.{before_test, before_trans, neither_before, order_append, before_is}}

@@ -1,9 +1,10 @@
 -- A tree of clauses grows by one that comes before those in it.
-use Rattle.std.proofs.Common.{◌≡◌, ℕ, zero, suc, ◌<◌, ◌≤◌, ◌+◌, ◌-◌, Bool, true, false, ◌||◌, eqb, cond, List, [], ◌∷◌, ◌++◌, refl, sym, ◌∙◌, ap, ap₂, subst, length, get_or, set, take, drop, drop-cons, add-one, eq-eqb, ne_eqb, append_assoc, length-append, length-drop, arith}
+use Rattle.std.proofs.Common.{◌≡◌, ℕ, zero, suc, ◌<◌, ◌≤◌, ◌+◌, ◌-◌, Bool, true, false, ◌||◌, eqb, cond, List, [], ◌∷◌, ◌++◌, refl, sym, ◌∙◌, ap, ap₂, subst}
+use Rattle.std.proofs.Common.{length, get_or, set, take, drop, drop-cons, add-one, eq-eqb, ne_eqb, append_assoc, length-append, length-drop, arith}
 use Rattle.std.proofs.{lemmas.Bool.{cond-true, cond-false}, Math.Seq.{drop-append_seam}}
 use Rattle.std.proofs.lemmas.List.{append-nil, drop-append-le, take-append-le, length-take-le}
-use Rattle.clause_families.specs.Branches.{bare, begin_of, branch, chain, is_empty, no_leap, nodes_of, past, shared, size_of, with_clause, Grows, Leap, Leaps, Tree}
-use Rattle.clause_families.specs.declared.family_tree.Node.{Node}
+use Rattle.clause_families.specs.Branches.{bare, begin_of, branch, chain, is_empty, no_leap, nodes_of, past, shared, size_of, with_clause, Grows, Leap, Leaps}
+use Rattle.clause_families.specs.{Branches.{Tree}, declared.family_tree.Node.{Node}}
 use Rattle.clause_families.proofs.Walked.{first_leaps, front_again, is_bare, parted, past_front, past_more, size_is, take_front, Front, Parts}
 
 abbrev node_of : ℕ → ℕ → ℕ → ℕ → Bool → Node

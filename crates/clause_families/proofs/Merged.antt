@@ -1,6 +1,6 @@
 -- The union of two ascending clauses by merging.
-use Rattle.std.proofs.Common.{◌≡◌, ◌≢◌, ℕ, ◌<◌, ◌≤◌, ◌+◌, ◌-◌, not, eqb, cond, List, [], ◌∷◌, ◌++◌, ◌⊎◌, inl, inr, sym, ◌∙◌, ap, ap₂, subst, length, get_or, take, drop, arith, add-one, append_assoc, append-nil, eq-eqb, ne_eqb, length-drop, drop-cons}
-use Rattle.std.proofs.lemmas.List.{drop_all, take_all}
+use Rattle.std.proofs.Common.{◌≡◌, ◌≢◌, ℕ, ◌<◌, ◌≤◌, ◌+◌, ◌-◌, not, eqb, cond, List, [], ◌∷◌, ◌++◌, ◌⊎◌, inl, inr, sym, ◌∙◌, ap, ap₂, subst, length, get_or}
+use Rattle.std.proofs.{Common.{take, drop, arith, add-one, append_assoc, append-nil, eq-eqb, ne_eqb, length-drop, drop-cons}, lemmas.List.{drop_all, take_all}}
 use Rattle.listed.proofs.{Orders.{rest_ascends, ascending_filter, ascending_same}, Lists.{In_none, filter_cases}}
 use Rattle.listed.specs.Lists.{Ascending}
 use Rattle.clause_families.specs.{Unions.{clause_without, union_of}, Laws.{Merges}}

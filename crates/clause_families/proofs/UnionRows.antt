@@ -1,6 +1,6 @@
 -- A row in which unions stand for the clauses that hold a package.
-use Rattle.std.proofs.Common.{◌≡◌, ℕ, ◌<◌, ◌+◌, true, false, not, ◌&&◌, ◌||◌, List, [], ◌∷◌, ◌++◌, ◌⊎◌, inl, inr, refl, sym, ◌∙◌, ap, subst, length, take, filter}
-use Rattle.std.proofs.lemmas.Bool.{and_from, and_parts, both_ways, false_from_ne_true, not-true, not_from_false}
+use Rattle.std.proofs.Common.{◌≡◌, ℕ, ◌<◌, ◌+◌, true, false, not, ◌&&◌, ◌||◌, List, [], ◌∷◌, ◌++◌, ◌⊎◌, inl, inr, refl, sym, ◌∙◌, ap, subst, length, take}
+use Rattle.std.proofs.{Common.{filter}, lemmas.Bool.{and_from, and_parts, both_ways, false_from_ne_true, not-true, not_from_false}}
 use Rattle.std.specs.List.{list_all}
 use Rattle.clause_pool.proofs.{Interned.{clauses_kept}, Clauses.{apart_cases, minimal_of_from, minimal_of_parts}}
 use Rattle.clause_pool.proofs.Order.{order_filter, order_same, ordered_has, ordered_order, ordered_parts}

@@ -1,9 +1,10 @@
 -- Clauses with a number dropped, unions of clauses, and what stands for a clause after substitution.
-use Rattle.std.proofs.Common.{◌≡◌, ◌≢◌, ℕ, ◌<◌, ◌≤◌, Bool, true, false, not, eqb, cond, List, [], ◌∷◌, ◌⊎◌, inl, inr, refl, sym, subst, eqb-true, ne_eqb, arith, ltb, map}
-use Rattle.std.proofs.lemmas.Bool.{both_ways, not_from_false, not-true, ltb-true, ltb-false, eqb-true, eqb-false}
+use Rattle.std.proofs.Common.{◌≡◌, ◌≢◌, ℕ, ◌<◌, ◌≤◌, Bool, true, false, not, eqb, cond, List, [], ◌∷◌, ◌⊎◌, inl, inr, refl, sym, subst, eqb-true, ne_eqb, arith}
+use Rattle.std.proofs.{Common.{ltb, map}, lemmas.Bool.{both_ways, not_from_false, not-true, ltb-true, ltb-false, eqb-true, eqb-false}}
 use Rattle.listed.specs.Lists.{In, has, here, there, Ascending}
 use Rattle.clause_families.specs.Unions.{clause_without, inserted, union_of, all_unions_for, unions_for}
-use Rattle.listed.proofs.Lists.{In_append_cases, In_append_left, In_append_right, In_cases, In_has, In_map, In_map_cases, In_none, filter_cases, filter_from, has_In, has_not}
+use Rattle.listed.proofs.Lists.{In_append_cases, In_append_left, In_append_right, In_cases, In_has, In_map, In_map_cases, In_none, filter_cases, filter_from}
+use Rattle.listed.proofs.Lists.{has_In, has_not}
 
 -- one number dropped from a list
 pub dropped_parts : (x : ℕ) (T : List ℕ) (n : ℕ) → In n (clause_without x T) → In n T × (n ≢ x)

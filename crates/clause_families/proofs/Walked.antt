@@ -1,6 +1,7 @@
 -- A walk through a tree of clauses in search of one within wanted numbers.
-use Rattle.std.proofs.Common.{◌≡◌, ℕ, zero, suc, ◌<◌, ◌≤◌, ◌+◌, ◌-◌, ◌⊎◌, Bool, true, false, ◌&&◌, ◌||◌, ltb, List, [], ◌∷◌, ◌++◌, inl, inr, refl, sym, ◌∙◌, ap, ap₂, subst, length, get_or, take, append_assoc, length-append, arith, lt-ltb, ne_eqb}
-use Rattle.std.proofs.{Math.Bool.{and-true, or-false}, lemmas.Bool.{and_right, cases_lt, le-ltb}, lemmas.List.{append-nil}}
+use Rattle.std.proofs.Common.{◌≡◌, ℕ, zero, suc, ◌<◌, ◌≤◌, ◌+◌, ◌-◌, ◌⊎◌, Bool, true, false, ◌&&◌, ◌||◌, ltb, List, [], ◌∷◌, ◌++◌, inl, inr, refl, sym, ◌∙◌, ap}
+use Rattle.std.proofs.{Common.{ap₂, subst, length, get_or, take, append_assoc, length-append, arith, lt-ltb, ne_eqb}, Math.Bool.{and-true, or-false}}
+use Rattle.std.proofs.{lemmas.Bool.{and_right, cases_lt, le-ltb}, lemmas.List.{append-nil}}
 use Rattle.listed.specs.Lists.{In, has, here, Ascending, is_inside}
 use Rattle.listed.proofs.Lists.{In_cases, In_has, In_none, all_same, has_not}
 use Rattle.clause_families.specs.Branches.{any_of, bare, branch, nodes_of, past, size_of, Above, Climbs, Leap, Leapt, Leaps, Standing, Tree}

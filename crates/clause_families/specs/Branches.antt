@@ -1,9 +1,11 @@
+-- for the bodies of this crate alone
 -- Families of clauses as trees: clauses that begin alike share branches.
-use Rattle.std.specs.Prelude.{◌≡◌, ℕ, zero, suc, ◌<◌, ◌≤◌, ◌+◌, ◌-◌, Bool, true, false, ◌&&◌, ◌||◌, eqb, cond, List, [], ◌∷◌, ◌++◌, length, get_or}
-use Rattle.std.specs.List.{list_any}
+use Rattle.std.specs.Prelude.{◌≡◌, ℕ, zero, suc, ◌<◌, ◌≤◌, ◌+◌, ◌-◌, Bool, true, false, ◌&&◌, ◌||◌}
+use Rattle.std.specs.{Prelude.{eqb, cond, List, [], ◌∷◌, ◌++◌, length, get_or}, List.{list_any}}
 use Rattle.listed.specs.Lists.{In, Ascending}
 use Rattle.clause_pool.specs.Lists.{InOrder}
-use Rattle.clause_families.specs.{declared.family_tree.FamilyTree.{FamilyTree}, declared.family_tree.Node.{Node}}
+use Rattle.clause_families.specs.declared.family_tree.FamilyTree.{FamilyTree}
+use Rattle.clause_families.specs.declared.family_tree.Node.{Node}
 
 -- how many siblings a branch leaps over, and the rank of that leap
 pub record Leap : Type 0 where

@@ -1,21 +1,24 @@
 -- for the bodies of this crate alone
 -- How many minimal clauses there are among kept clauses and the unions of two families.
-use Rattle.std.specs.{Prelude.{◌≡◌, ℕ, Bool, not, ◌&&◌, ◌+◌, cond, List, [], ◌∷◌, length, map, drop, get_or}, List.{filter, flat_map, list_all, list_any}}
+use Rattle.std.specs.Prelude.{◌≡◌, ℕ, Bool, not, ◌&&◌, ◌+◌, cond, List, [], ◌∷◌, length, map, drop}
+use Rattle.std.specs.{Prelude.{get_or}, List.{filter, flat_map, list_all, list_any}}
 use Rattle.listed.specs.Lists.{In, Ascending, has}
 use Rattle.clause_pool.specs.Clauses.{in_row_order}
-use Rattle.clause_families.specs.{Branches.{TreeOf}, Inclusion.{has_shorter, some_inside}, Unions.{clause_without, union_of}}
-use Rattle.clause_families.specs.declared.{counting.Family.{Family}, counting.Parts.{Parts}}
+use Rattle.clause_families.specs.{Branches.{TreeOf}, Inclusion.{has_shorter, some_inside}}
+use Rattle.clause_families.specs.Unions.{clause_without, union_of}
+use Rattle.clause_families.specs.declared.{splitting.Family.{Family}, splitting.Parts.{Parts}}
 
 -- the clauses that hold the number, each without it
 abbrev pub clauses_cut : ℕ → List (List ℕ) → List (List ℕ)
 clauses_cut number row =
     flat_map (λ clause. cond (has clause number) (clause_without number clause ∷ []) []) row
 
--- whether a union of the two families is within the clause
+-- whether the union of some clause of the first family with some clause of the second is within the
+-- clause
 abbrev pub unites : List (List ℕ) → List (List ℕ) → List ℕ → Bool
 unites first second clause = some_inside first clause && some_inside second clause
 
--- whether a union of the two families is within the clause less one of its numbers
+-- whether such a union is within what is left of the clause without some one of its numbers
 abbrev pub unites_less : List (List ℕ) → List (List ℕ) → List ℕ → Bool
 unites_less first second clause =
     list_any (λ n. unites first second (clause_without n clause)) clause
@@ -26,13 +29,14 @@ abbrev pub is_new : List (List ℕ) → List (List ℕ) → List (List ℕ) → 
 is_new kept first second later union = not (has_shorter kept union)
     && (not (some_inside later union) && not (unites_less first second union))
 
--- how many unions of a clause of the first family with these of the second one count
+-- how many of the unions of one clause of the first family with these of the second count
 abbrev pub slice_count : List (List ℕ) → List (List ℕ) → List (List ℕ) → List (List ℕ) →
     List ℕ → List (List ℕ) → ℕ
 slice_count kept first second later clause others =
     length (filter (is_new kept first second later) (in_row_order (map (union_of clause) others)))
 
--- how many unions of these clauses of the first family count, each with the last clause within it
+-- How many unions of these clauses of the first family count. A union in which several of them lie
+-- is counted with the last of these alone.
 abbrev pub slices : List (List ℕ) → List (List ℕ) → List (List ℕ) → List (List ℕ) → ℕ
 slices kept first second [] = 0
 slices kept first second (clause ∷ later) =
@@ -50,7 +54,7 @@ is_apart numbers clause = list_all (λ n. not (has numbers n)) clause
 abbrev pub HasNumbers : List (List ℕ) → List ℕ → Type 0
 HasNumbers family numbers = (c : List ℕ) → In c family → (n : ℕ) → In n c → In n numbers
 
--- the tree is that of the clauses
+-- the tree of the family is the tree of its clauses
 abbrev pub IsFamily : Family → Type 0
 IsFamily family = TreeOf family.tree family.clauses.items
 
@@ -61,8 +65,8 @@ first_at parts place = get_or parts.first.clauses.items place []
 abbrev pub rest_of : Parts → ℕ → List (List ℕ)
 rest_of parts place = drop (place + 1) parts.first.clauses.items
 
--- the second family is split into the clauses with none of the near numbers and the others; the
--- numbers of the first family and of kept clauses are near
+-- Some numbers are near, among them all of the first family and of the kept clauses. The second
+-- family is split: `alone` has the clauses without a near number, `others` has the rest.
 pub record IsSplit (parts : Parts) : Type 0 where
   pub near : List ℕ
   pub of_first : HasNumbers parts.first.clauses.items near
@@ -71,8 +75,8 @@ pub record IsSplit (parts : Parts) : Type 0 where
   pub others : parts.others.items
       ≡ filter (λ clause. not (is_apart near clause)) parts.second.clauses.items
 
--- the parts of a row: three families with their trees, the second one split, and ascending numbers,
--- among which are all of the second family and of the kept clauses
+-- The parts of a row. There are three families with their trees, and the second one is split. There
+-- is an ascending list of numbers, with all of the second family and of the kept clauses.
 pub record AreParts (parts : Parts) : Type 0 where
   pub kept : IsFamily parts.kept
   pub first : IsFamily parts.first

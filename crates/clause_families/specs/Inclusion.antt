@@ -1,3 +1,4 @@
+-- for bodies alone, those of other crates too
 -- Clauses that lie within other ones.
 use Rattle.std.specs.{Prelude.{ℕ, Bool, not, ◌&&◌, ltb, List, length}, List.{list_any}}
 use Rattle.listed.specs.Lists.{has, is_inside}

@@ -1,9 +1,13 @@
 //! The clauses that a row may have once a package is taken out, made in scratch space before they
 //! go into the pool.
-ghost use Rattle.std.specs.{Prelude.{◌≡◌, ℕ, ◌<◌, ◌++◌, List, IfOk, OnOk, length}, List.{filter}, Option.{ForSome}};
-ghost use Rattle.clause_pool.specs.{Interned.{clauses_at, row_at, Kept, OfPool, IsPool}, Clauses.{apart_from, minimal_of, in_row_order}, Lists.{InOrder}};
+ghost use Rattle.std.specs.{Prelude.{◌≡◌, ℕ, ◌<◌, ◌++◌, List, IfOk, OnOk, length}, List.{filter}};
+ghost use Rattle.std.specs.Option.{ForSome};
+ghost use Rattle.clause_pool.specs.Interned.{clauses_at, row_at, Kept, OfPool, IsPool};
+ghost use Rattle.clause_pool.specs.Clauses.{apart_from, minimal_of, in_row_order};
+ghost use Rattle.clause_pool.specs.Lists.{InOrder};
 ghost use Rattle.listed.specs.Lists.{In, Ascending, Inside};
-ghost use Rattle.clause_families.specs.{Inclusion.{stays}, Branches.{TreeOf}, Families.{all_unions, unions_of, HasUnions, SameClauses}};
+ghost use Rattle.clause_families.specs.{Inclusion.{stays}, Branches.{TreeOf}};
+ghost use Rattle.clause_families.specs.Families.{all_unions, unions_of, HasUnions, SameClauses};
 
 use crate::family_tree::FamilyTree;
 use crate::needed::{is_longer, is_needed, stays, tree_beside, tree_of_many};
@@ -129,7 +133,7 @@ fn put_unions(
 }
 
 /// Copies of the clauses that do not hold a number.
-pub fn clauses_without(
+pub(crate) fn clauses_without(
     alloc: Global,
     pool: &Pool,
     number: u32,
@@ -151,7 +155,7 @@ pub fn clauses_without(
 
 /// Appends, for each clause of the row that holds the spent package, its unions without the package
 /// with each of the others.
-pub fn add_unions(
+pub(crate) fn add_unions(
     alloc: Global,
     pool: &Pool,
     spent: u32,

@@ -3,11 +3,15 @@
 //!
 //! Halving groups of clauses, which lie far apart in memory, took twice as long. A tree takes 16
 //! bytes a number, so only a large family gets one.
-ghost use Rattle.std.specs.Prelude.{◌≡◌, ◌<◌, ◌≤◌, ◌+◌, ◌-◌, ◌⊎◌, ◌&&◌, ◌++◌, ◌∷◌, ℕ, List, IfOk, OnOk, ltb, length, take, drop};
-ghost use Rattle.clause_pool.specs.{Interned.{clauses_at, OfPool}, Clauses.{apart_from}, Lists.{InOrder}};
+ghost use Rattle.std.specs.Prelude.{◌≡◌, ◌<◌, ◌≤◌, ◌+◌, ◌-◌, ◌⊎◌, ◌&&◌, ◌++◌, ◌∷◌, ℕ, List, IfOk};
+ghost use Rattle.std.specs.Prelude.{OnOk, ltb, length, take, drop};
+ghost use Rattle.clause_pool.specs.{Interned.{clauses_at, OfPool}, Clauses.{apart_from}};
+ghost use Rattle.clause_pool.specs.Lists.{InOrder};
 ghost use Rattle.listed.specs.Lists.{In, Ascending};
 ghost use Rattle.clause_families.specs.Inclusion.{has_shorter, is_within, some_inside};
-ghost use Rattle.clause_families.specs.Branches.{any_of, begin_of, chain, nodes_of, shared, BuiltOf, Grows, HasFamily, Leaps, Leapt, Standing, Tree, TreeOf};
+ghost use Rattle.clause_families.specs.Branches.{any_of, begin_of, chain, nodes_of, shared};
+ghost use Rattle.clause_families.specs.Branches.{BuiltOf, Grows, HasFamily, Leaps, Leapt, Standing};
+ghost use Rattle.clause_families.specs.Branches.{Tree, TreeOf};
 
 use crate::scratch::Clause;
 use clause_pool::{ClauseId, Pool};
@@ -36,7 +40,7 @@ pub(crate) struct Node {
 /// The clauses of a family as a tree of their numbers, in which clauses that begin alike share
 /// nodes.
 #[derive(Drop)]
-pub struct FamilyTree {
+pub(crate) struct FamilyTree {
     nodes: Vec<Node>,
     holds_empty: bool,
     /// No clause has fewer numbers.

@@ -13,6 +13,7 @@ mod needed;
 mod placing;
 mod rewriting;
 mod scratch;
+mod splitting;
 mod useful;
 
 // A clause is made in scratch space.
@@ -24,12 +25,8 @@ pub use family::{intern_minimal, put_in_order};
 // The clauses of a row without a package are counted.
 pub use counting::count_with_unions;
 
-// A family is searched for a shorter clause within a clause.
-pub use family_tree::FamilyTree;
-pub use needed::{is_longer, tree_of_many};
-
 // A package is taken out of a row, in a pool or in scratch space.
-pub use family::{add_unions, clauses_without, with_unions};
+pub use family::with_unions;
 pub use rewriting::rewrite;
 pub use useful::useful_of;
 

@@ -3,10 +3,13 @@
 //!
 //! A union that equals a kept clause may be called needless, since that clause stays. No union
 //! holds the spent package, so no clause that holds it is within a union.
-ghost use Rattle.std.specs.{Prelude.{◌≡◌, ℕ, ◌<◌, ◌≤◌, List, IfOk, length, false, None}, Bool.{OnFalse, OnTrue}, Option.{ForSome}};
-ghost use Rattle.clause_pool.specs.{Interned.{clauses_at, OfPool, IsPool}, Clauses.{apart_from}, Lists.{InOrder}, Within.{some_within}};
+ghost use Rattle.std.specs.Prelude.{◌≡◌, ℕ, ◌<◌, ◌≤◌, List, IfOk, length, false, None};
+ghost use Rattle.std.specs.{Bool.{OnFalse, OnTrue}, Option.{ForSome}};
+ghost use Rattle.clause_pool.specs.{Interned.{clauses_at, OfPool, IsPool}, Clauses.{apart_from}};
+ghost use Rattle.clause_pool.specs.{Lists.{InOrder}, Within.{some_within}};
 ghost use Rattle.listed.specs.Lists.{In, Ascending};
-ghost use Rattle.clause_families.specs.{Inclusion.{has_shorter, is_strictly_inside, stays}, Branches.{TreeOf}};
+ghost use Rattle.clause_families.specs.Inclusion.{has_shorter, is_strictly_inside, stays};
+ghost use Rattle.clause_families.specs.Branches.{TreeOf};
 ghost use Rattle.clause_families.specs.Families.{IncludesOneOf, IsNeedless, IsShortest};
 
 use crate::family_tree::FamilyTree;
@@ -22,7 +25,10 @@ const FEW: usize = 4;
 const SHARE: usize = 8;
 
 /// The tree of a family, if it has more than a few clauses.
-pub fn tree_of_many(alloc: Global, family: &[Clause]) -> Result<Option<FamilyTree>, AllocError>
+pub(crate) fn tree_of_many(
+    alloc: Global,
+    family: &[Clause],
+) -> Result<Option<FamilyTree>, AllocError>
     requires in_order { InOrder family.now }
     requires rising { (c : List ℕ) → In c family.now → Ascending c }
     ensures tree { IfOk result (λ tree. ForSome tree (λ t. TreeOf t family.now)) }
@@ -117,7 +123,7 @@ pub(crate) fn is_needed(
 }
 
 /// Whether a shorter clause of the family is within the clause.
-pub fn is_longer(family: &[Clause], tree: &Option<FamilyTree>, clause: &[u32]) -> bool
+pub(crate) fn is_longer(family: &[Clause], tree: &Option<FamilyTree>, clause: &[u32]) -> bool
     requires tree { ForSome tree.now (λ t. TreeOf t family.now) }
     requires ascending { Ascending clause.now }
     ensures { result ≡ has_shorter family.now clause.now }

@@ -1,6 +1,7 @@
 //! Puts ids into rows in the order of their clauses.
 ghost use Rattle.std.specs.Prelude.{◌≡◌, ◌≤◌, ◌<◌, ℕ, length, true, false, slice_index_or, OnOk};
-ghost use Rattle.clause_pool.specs.{Interned.{clause_at, clauses_at, OfPool, IsPool}, Clauses.{comes_before}, Lists.{InOrder}};
+ghost use Rattle.clause_pool.specs.Interned.{clause_at, clauses_at, OfPool, IsPool};
+ghost use Rattle.clause_pool.specs.{Clauses.{comes_before}, Lists.{InOrder}};
 ghost use Rattle.clause_families.specs.Families.{HasGained};
 
 use clause_pool::{ClauseId, Pool, is_before};

@@ -1,6 +1,7 @@
 //! The row of a user once a package is taken out.
 ghost use Rattle.std.specs.Prelude.{◌≡◌, ◌<◌, ℕ, List, IfOk, length};
-ghost use Rattle.clause_pool.specs.{Interned.{clauses_at, IsPool, Kept, OfPool}, Clauses.{apart_from, in_row_order}, Lists.{InOrder}};
+ghost use Rattle.clause_pool.specs.Interned.{clauses_at, IsPool, Kept, OfPool};
+ghost use Rattle.clause_pool.specs.{Clauses.{apart_from, in_row_order}, Lists.{InOrder}};
 ghost use Rattle.listed.specs.Lists.{In, Inside};
 ghost use Rattle.clause_families.specs.Unions.{substituted};
 

@@ -1,6 +1,8 @@
 //! Clauses that are not in the pool.
 ghost use Rattle.std.specs.Prelude.{◌≡◌, ◌==◌, ◌++◌, IfOk, OnOk, nat_eq, Some, refl};
-ghost use Rattle.std.specs.Cmp.Lexicographic.{pointwise, slice_cmp, slice_partial_cmp, lists_equiv, lists_total, nat_list_cmp_total, nat_list_eq_equiv, texts_po, texts_ties};
+ghost use Rattle.std.specs.Cmp.Lexicographic.{pointwise, slice_cmp, slice_partial_cmp, lists_equiv};
+ghost use Rattle.std.specs.Cmp.Lexicographic.{lists_total, nat_list_cmp_total, nat_list_eq_equiv};
+ghost use Rattle.std.specs.Cmp.Lexicographic.{texts_po, texts_ties};
 ghost use Rattle.std.specs.{Cmp.{partial_equiv_from_equiv}, Ordering.{nat_cmp}};
 ghost use Rattle.listed.specs.Lists.{Ascending};
 ghost use Rattle.clause_families.specs.Unions.{clause_without, union_of};

@@ -1,6 +1,8 @@
 -- The package that is taken out next: the one of least key, and of these the least number.
-use Rattle.std.proofs.Common.{◌≡◌, ℕ, ◌<◌, ◌≤◌, Bool, true, false, not, ◌&&◌, eqb, ltb, List, [], ◌∷◌, ◌⊎◌, inl, inr, sym, subst, arith, filter, Some, None, eq-eqb, eqb-true}
-use Rattle.std.proofs.lemmas.Bool.{both_ways, cases_Bool, cases_order, cases_lt, and_parts, and_from, or_cases, or_left, or_right, not-true, not_from_false, false_from_ne_true, ltb-true, lt-ltb}
+use Rattle.std.proofs.Common.{◌≡◌, ℕ, ◌<◌, ◌≤◌, Bool, true, false, not, ◌&&◌, eqb, ltb, List, [], ◌∷◌, ◌⊎◌, inl, inr, sym, subst, arith, filter, Some, None}
+use Rattle.std.proofs.Common.{eq-eqb, eqb-true}
+use Rattle.std.proofs.lemmas.Bool.{both_ways, cases_Bool, cases_order, cases_lt, and_parts, and_from, or_cases, or_left, or_right, not-true, not_from_false}
+use Rattle.std.proofs.lemmas.Bool.{false_from_ne_true, ltb-true, lt-ltb}
 use Rattle.std.specs.List.{list_all}
 use Rattle.listed.specs.Lists.{In, here, there}
 use Rattle.row_book.specs.Flattening.{sooner, is_soonest, soonest}

@@ -1,13 +1,13 @@
 -- How many clauses a row has, and at most once a package is taken out.
-use Rattle.std.proofs.Common.{◌≡◌, ℕ, suc, ◌<◌, ◌≤◌, ◌+◌, ◌*◌, Bool, true, false, not, ◌||◌, cond, ltb, List, [], ◌∷◌, length, map, take, filter, refl, ◌∙◌, ap, arith, Option, Some, None}
-use Rattle.std.proofs.{lemmas.List.{length-append, length-map}, lemmas.List.Filters.{length-filter_both}, lemmas.Nat.{mul-le}, Math.Nat.{suc-mul}}
+use Rattle.std.proofs.Common.{◌≡◌, ℕ, suc, ◌<◌, ◌≤◌, ◌+◌, ◌*◌, Bool, true, false, not, ◌||◌, cond, ltb, List, [], ◌∷◌, length, map, refl, ◌∙◌, ap, arith}
+use Rattle.std.proofs.{Common.{Option, Some, None}, lemmas.List.{length-append, length-map}, lemmas.List.Filters.{length-filter_both}, lemmas.Nat.{mul-le}}
+use Rattle.std.proofs.Math.Nat.{suc-mul}
 use Rattle.std.specs.List.{list_all}
 use Rattle.listed.proofs.Lists.{filter_short}
 use Rattle.listed.specs.Lists.{has, is_inside}
 use Rattle.clause_pool.specs.Clauses.{apart_from, comes_before, insert_clause, in_row_order, minimal_of}
 use Rattle.clause_flatten.specs.Holding.{clauses_with, most_clauses, over_limit}
 use Rattle.clause_families.specs.Unions.{all_unions_for, clause_without, substituted, union_of, unions_for}
-use Rattle.clause_families.proofs.Families.{At, filter_kept, filter_left}
 
 inserted_count : (c : List ℕ) (cs : List (List ℕ)) → length (insert_clause c cs) ≤ suc (length cs)
 inserted_count c [] = omega arith
@@ -58,18 +58,17 @@ parts_count q cs = length-filter_both (λ c. has c q) (λ c. not (has c q)) (λ 
 pub with_few : (q : ℕ) (cs : List (List ℕ)) → length (clauses_with q cs) ≤ length cs
 with_few q cs = filter_short (λ c. has c q) cs
 
+-- all clauses together, and for each of them one for each of the package's own row
+pub most_few : (q : ℕ) (cs : List (List ℕ)) (n : ℕ) → most_clauses q cs n ≤ length cs + length cs * n
+most_few q cs n =
+    let few : length (clauses_with q cs) ≤ length cs = with_few q cs in
+    let parts : length (clauses_with q cs) + length (apart_from q cs) ≡ length cs = parts_count q cs in
+    let product : length (clauses_with q cs) * n ≤ length cs * n = mul-le (length (clauses_with q cs)) n (length cs) n few (omega arith) in
+    omega arith
+
 -- within the numbers of 64 bits
 pub product_small : (m n : ℕ) → m < 4294967296 → n < 4294967296 → m * n ≤ 18446744065119617025
 product_small m n l k = mul-le m n 4294967295 4294967295 (omega arith) (omega arith)
-
--- one more item looked at
-pub one_more : (p : List ℕ → Bool) (xs : List (List ℕ)) (i : ℕ) (clause : List ℕ) → At xs i clause → p clause ≡ true →
-    length (filter p (take (i + 1) xs)) ≡ length (filter p (take i xs)) + 1
-one_more p xs i clause a h = ap length (filter_kept p xs i clause a h) ∙ length-append (filter p (take i xs)) (clause ∷ [])
-
-pub none_more : (p : List ℕ → Bool) (xs : List (List ℕ)) (i : ℕ) (clause : List ℕ) → At xs i clause → p clause ≡ false →
-    length (filter p (take (i + 1) xs)) ≡ length (filter p (take i xs))
-none_more p xs i clause a h = ap length (filter_left p xs i clause a h)
 
 -- the count of a row over the limit
 pub some_over_limit : (limit n k : ℕ) → Some k ≡ over_limit limit n → (ltb limit n ≡ true) × (k ≡ n)

@@ -1,8 +1,10 @@
 -- Flattening keeps every set.
-use Rattle.std.proofs.Common.{◌≡◌, ◌≢◌, ℕ, zero, suc, ◌<◌, Bool, true, false, not, ◌&&◌, ◌||◌, cond, [], length, inl, inr, refl, sym, ◌∙◌, ap, subst, arith, Option, Some, None, zero-le}
+use Rattle.std.proofs.Common.{◌≡◌, ◌≢◌, ℕ, zero, suc, ◌<◌, Bool, true, false, not, ◌&&◌, ◌||◌, cond, [], length, inl, inr, refl, sym, ◌∙◌, ap, subst, arith}
+use Rattle.std.proofs.Common.{Option, Some, None, zero-le}
 use Rattle.std.proofs.lemmas.Bool.{both_ways, cases_Bool, and_parts, and_from, or_parts, not-true, not_from_false, true_from_ne_false, ltb-true, lt-ltb}
 use Rattle.row_book.specs.{Sets.{NumSet, plus, without}, Repository.{Repository, against}, Support.{IsRow, row}, Sound.{BetweenPackages, OfPackages}}
-use Rattle.row_book.specs.Flattening.{core_of, flat, gone_or_held, has_conflict, may_go, next_gone, packages, passes_over, remaining_after, row_length, rows_over, Remaining}
+use Rattle.row_book.specs.Flattening.{core_of, flat, gone_or_held, has_conflict, may_go, next_gone, packages, passes_over, remaining_after, row_length}
+use Rattle.row_book.specs.Flattening.{rows_over, Remaining}
 use Rattle.listed.specs.Lists.{In}
 use Rattle.clause_flatten.specs.{Laws.{HoldsConflicts}, FlatLaws.{FlatKeeps, NextIsLeast}}
 use Rattle.row_book.proofs.{Sets.{without_from, without_parts}, Numbers.{at_numbers, length_numbers, numbers_from}}

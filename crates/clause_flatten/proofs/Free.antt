@@ -1,7 +1,9 @@
 -- Packages without conflicts, and those of them that wait.
-use Rattle.std.proofs.Common.{◌≡◌, ℕ, ◌<◌, ◌+◌, Bool, true, false, not, ◌&&◌, ◌||◌, eqb, ltb, List, [], ◌∷◌, length, inl, inr, refl, sym, ◌∙◌, ap, ap₂, subst, arith, ne_eqb, zero-le}
+use Rattle.std.proofs.Common.{◌≡◌, ℕ, ◌<◌, ◌+◌, Bool, true, false, not, ◌&&◌, ◌||◌, eqb, ltb, List, [], ◌∷◌, length, inl, inr, refl, sym, ◌∙◌, ap, ap₂, subst}
+use Rattle.std.proofs.Common.{arith, ne_eqb, zero-le}
 use Rattle.std.specs.Cmp.{both_ways as bool_same}
-use Rattle.std.proofs.lemmas.Bool.{both_ways, cases_eq, and_left, and_parts, and_from, or_left, or_cases, not_from_true, false_from_ne_true, ltb-true, lt-ltb, le-ltb, not_from_false}
+use Rattle.std.proofs.lemmas.Bool.{both_ways, cases_eq, and_left, and_parts, and_from, or_left, or_cases, not_from_true, false_from_ne_true, ltb-true, lt-ltb}
+use Rattle.std.proofs.lemmas.Bool.{le-ltb, not_from_false}
 use Rattle.std.proofs.lemmas.List as lists
 use Rattle.clause_pool.specs.Interned.{Interned, row_at}
 use Rattle.row_book.specs.{declared.book.Book.{Book}, Sets.{plus}, Repository.{Repository, against, conflicts_of}, Sound.{BetweenPackages}}

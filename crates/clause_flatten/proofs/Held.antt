@@ -1,10 +1,11 @@
 -- With hold: no row passes the limit, and what is held stands in some clause.
-use Rattle.std.proofs.Common.{◌≡◌, ℕ, zero, suc, ◌<◌, ◌≤◌, ◌+◌, Bool, true, false, ltb, cond, List, [], ◌∷◌, length, inl, inr, refl, sym, ◌∙◌, ap, subst, arith, Option, Some, None, zero-le}
-use Rattle.std.proofs.lemmas.Bool.{both_ways, cases_Bool, cases_eq, ltb-false, ltb-true}
+use Rattle.std.proofs.Common.{◌≡◌, ℕ, zero, suc, ◌<◌, ◌≤◌, ◌+◌, Bool, true, false, ltb, cond, List, [], ◌∷◌, length, inl, inr, refl, sym, ◌∙◌, ap, subst, arith}
+use Rattle.std.proofs.{Common.{Option, Some, None, zero-le}, lemmas.Bool.{both_ways, cases_Bool, cases_eq, ltb-false, ltb-true}}
 use Rattle.std.specs.{List.{find, list_any}, Option.{option_map}}
 use Rattle.listed.specs.Lists.{In, has}
 use Rattle.row_book.specs.{Sets.{NumSet, without}, Repository.{Repository}, Numbers.{numbers}, Support.{row}, Sound.{OfPackages}}
-use Rattle.row_book.specs.Flattening.{first_some, gone_or_held, has_conflict, next_gone, packages, Passed, passed_at, passes, passes_over, remaining_after, row_length, Remaining}
+use Rattle.row_book.specs.Flattening.{first_some, gone_or_held, has_conflict, next_gone, packages, Passed, passed_at, passes, passes_over, remaining_after}
+use Rattle.row_book.specs.Flattening.{row_length, Remaining}
 use Rattle.row_book.proofs.{Sets.{plus_cases}, Numbers.{numbers_from, numbers_parts}}
 use Rattle.listed.proofs.Lists.{In_has, any_cases, any_none, find_none, has_In}
 use Rattle.clause_flatten.specs.FlatLaws.{HeldIsUsed, HoldStaysWithin}

@@ -1,6 +1,8 @@
 -- Each set stays co-installable or not.
-use Rattle.std.proofs.Common.{◌≡◌, ℕ, [], slice_index_or, zero, suc, ◌<◌, Bool, true, false, not, ◌&&◌, ◌||◌, List, length, ◌⊎◌, inl, inr, refl, sym, subst, arith}
-use Rattle.std.proofs.lemmas.Bool.{both_ways, cases_Bool, cases_eq, and_parts, and_from, or_cases, or_left, or_right, not_from_false, not-true, false_from_ne_true, false≢true, lt-ltb}
+use Rattle.std.proofs.Common.{◌≡◌, ℕ, [], slice_index_or, zero, suc, ◌<◌, Bool, true, false, not, ◌&&◌, ◌||◌, List, length, ◌⊎◌, inl, inr, refl, sym, subst}
+use Rattle.std.proofs.Common.{arith}
+use Rattle.std.proofs.lemmas.Bool.{both_ways, cases_Bool, cases_eq, and_parts, and_from, or_cases, or_left, or_right, not_from_false, not-true}
+use Rattle.std.proofs.lemmas.Bool.{false_from_ne_true, false≢true, lt-ltb}
 use Rattle.row_book.specs.{Sets.{Hit, HitsAll, Is, NumSet, Within, minus, plus, without}, Repository.{Healthy, Repository, Satisfied, against, clauses_of}}
 use Rattle.row_book.specs.{Support.{Alive, Blocks, IsRow, MinimalBlock, Support}, Sound.{OfPackages}, Flattening.{all_packages, flat}}
 use Rattle.listed.specs.Lists.{In, has}

@@ -1,6 +1,6 @@
 -- Trees of least numbers: what a step upwards mends, and what a step downwards finds.
-use Rattle.std.proofs.Common.{◌≡◌, ◌≢◌, ℕ, ◌+◌, ◌-◌, ◌*◌, ◌/◌, ◌^◌, ◌<◌, ◌≤◌, min, List, length, get_or, drop, replicate, ◌%◌, inl, inr, refl, sym, ◌∙◌, ap, subst, arith, add-one}
-use Rattle.std.proofs.{Math.ListN.{get_or-eq_default}, Math.Nat.{two-pow-succ}, Math.Pow.{pow_mono}, lemmas.Bool.{cases_eq}}
+use Rattle.std.proofs.Common.{◌≡◌, ◌≢◌, ℕ, ◌+◌, ◌-◌, ◌*◌, ◌/◌, ◌^◌, ◌<◌, ◌≤◌, min, List, length, get_or, drop, replicate, ◌%◌, inl, inr, refl, sym, ◌∙◌, ap}
+use Rattle.std.proofs.{Common.{subst, arith, add-one}, Math.ListN.{get_or-eq_default}, Math.Nat.{two-pow-succ}, Math.Pow.{pow_mono}, lemmas.Bool.{cases_eq}}
 use Rattle.std.proofs.{lemmas.List.{get_or_default, get_or-drop, get_or-replicate, length-drop, length-replicate}, lemmas.Nat.{pow_pos, shl_whole}}
 use Rattle.clause_flatten.specs.LeastTree.{node, IsTree}
 

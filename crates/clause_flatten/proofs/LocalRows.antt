@@ -1,7 +1,7 @@
 -- The row of a package over a set is local: among packages that name none but each other it is the same in each repository
 -- that they stand in.
-use Rattle.std.proofs.Common.{◌≡◌, ℕ, ◌<◌, true, false, ◌&&◌, eqb, List, [], ◌∷◌, length, map, inl, inr, refl, sym, ◌∙◌, ap, subst, arith, eq-eqb, eqb-true, zero-le}
-use Rattle.std.proofs.{lemmas.Bool.{and_parts, and_from, cases_eq, cases_lt}, lemmas.List.{length-map}}
+use Rattle.std.proofs.Common.{◌≡◌, ℕ, ◌<◌, true, false, ◌&&◌, eqb, List, [], ◌∷◌, length, map, inl, inr, refl, sym, ◌∙◌, ap, subst, arith, eq-eqb, eqb-true}
+use Rattle.std.proofs.{Common.{zero-le}, lemmas.Bool.{and_parts, and_from, cases_eq, cases_lt}, lemmas.List.{length-map}}
 use Rattle.std.specs.List.{list_any}
 use Rattle.listed.specs.Lists.{In, here, there, has, Ascending, Inside}
 use Rattle.listed.proofs.{Lists.{In_has, has_In, In_map, In_map_cases, any_cases, any_from}, Orders.{ascending_same}}

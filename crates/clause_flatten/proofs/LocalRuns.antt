@@ -1,5 +1,6 @@
 -- Elimination among packages that name none but each other: the stages with others follow those without.
-use Rattle.std.proofs.Common.{◌≡◌, ◌≢◌, ℕ, zero, suc, ◌<◌, ◌≤◌, ◌+◌, ◌-◌, Bool, true, false, ◌&&◌, eqb, ltb, List, ◌∷◌, length, ◌⊎◌, inl, inr, refl, sym, ◌∙◌, ap, subst, arith, map, Option, Some, None, zero-le, eq-eqb, eqb-true}
+use Rattle.std.proofs.Common.{◌≡◌, ◌≢◌, ℕ, zero, suc, ◌<◌, ◌≤◌, ◌+◌, ◌-◌, Bool, true, false, ◌&&◌, eqb, ltb, List, ◌∷◌, length, ◌⊎◌, inl, inr, refl, sym, ◌∙◌}
+use Rattle.std.proofs.Common.{ap, subst, arith, map, Option, Some, None, zero-le, eq-eqb, eqb-true}
 use Rattle.std.proofs.lemmas.Bool.{and_from, and_parts, both_ways, cases_Bool, cases_order, lt-ltb, ltb-false}
 use Rattle.std.specs.{List.{find, list_any}, Option.{option_map}}
 use Rattle.listed.specs.Lists.{In}

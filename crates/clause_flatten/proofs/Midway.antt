@@ -1,6 +1,6 @@
 -- The rows in the middle of an elimination: those of some users are replaced.
-use Rattle.std.proofs.Common.{◌≡◌, ◌≢◌, ℕ, ◌<◌, ◌+◌, List, [], ◌∷◌, length, get_or, drop, drop-cons, add-one, map, ◌⊎◌, inl, inr, refl, sym, ◌∙◌, ap, ap₂, subst}
-use Rattle.std.proofs.lemmas.Bool.{cases_eq}
+use Rattle.std.proofs.Common.{◌≡◌, ◌≢◌, ℕ, ◌<◌, ◌+◌, List, [], ◌∷◌, length, get_or, drop, drop-cons, add-one, map, ◌⊎◌, inl, inr, refl, sym, ◌∙◌, ap, ap₂}
+use Rattle.std.proofs.{Common.{subst}, lemmas.Bool.{cases_eq}}
 use Rattle.listed.proofs.Lists.{In_drop, In_cases, In_none, decided_in}
 use Rattle.clause_pool.specs.{Interned.{Interned, IsPool, Kept, row_at}, Clauses.{in_row_order}}
 use Rattle.clause_pool.proofs.{Lists.{In_at}, Interned.{kept_along, kept_same}}

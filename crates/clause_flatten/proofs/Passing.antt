@@ -1,9 +1,10 @@
 -- The stages of elimination that pass the clause limit, and the package that is next.
-use Rattle.std.proofs.Common.{◌≡◌, ℕ, zero, suc, ◌<◌, ◌≤◌, ◌+◌, Bool, true, false, ltb, cond, List, ◌∷◌, length, inl, inr, refl, sym, ◌∙◌, ap, arith, map, Option, Some, None}
-use Rattle.std.proofs.lemmas.Bool.{both_ways, cases_Bool, true_from_ne_false, le-ltb}
+use Rattle.std.proofs.Common.{◌≡◌, ℕ, zero, suc, ◌<◌, ◌≤◌, ◌+◌, Bool, true, false, ltb, cond, List, ◌∷◌, length, inl, inr, refl, sym, ◌∙◌, ap, arith, map}
+use Rattle.std.proofs.{Common.{Option, Some, None}, lemmas.Bool.{both_ways, cases_Bool, true_from_ne_false, le-ltb}}
 use Rattle.std.specs.Option.{option_map}
 use Rattle.row_book.specs.{Sets.{NumSet}, Repository.{Repository}, Numbers.{numbers}, Sound.{OfPackages, SoundClauses}}
-use Rattle.row_book.specs.Flattening.{Passed, Remaining, first_some, has_conflict, may_go, next_gone, packages, passed_at, passed_by, passes, remaining_after, row_length, rows_over}
+use Rattle.row_book.specs.Flattening.{Passed, Remaining, first_some, has_conflict, may_go, next_gone, packages, passed_at, passed_by, passes, remaining_after}
+use Rattle.row_book.specs.Flattening.{row_length, rows_over}
 use Rattle.listed.proofs.Lists.{find_not}
 use Rattle.row_book.proofs.Numbers.{numbers_parts}
 use Rattle.clause_flatten.specs.{Substitution.{first_table, length_in, stage_after}, TidyRows.{tidied_table}, Waiting.{IsFirst}}

@@ -1,6 +1,7 @@
 -- Rows of a pool of which one after another is replaced, and what a package's elimination comes to.
-use Rattle.std.proofs.Common.{◌≡◌, ◌≢◌, ℕ, zero, suc, ◌<◌, ◌≤◌, ◌+◌, true, List, [], ◌∷◌, length, get_or, drop, map, slice_set, ◌⊎◌, inl, inr, refl, sym, ◌∙◌, ap, ap₂, subst, arith}
-use Rattle.std.proofs.{lemmas.Bool.{cases_eq}, lemmas.List.{get_or-set_same, get_or-set_other, get_or-map, length-set, length-map}}
+use Rattle.std.proofs.Common.{◌≡◌, ◌≢◌, ℕ, zero, suc, ◌<◌, ◌≤◌, ◌+◌, true, List, [], ◌∷◌, length, get_or, drop, map, slice_set, ◌⊎◌, inl, inr, refl, sym, ◌∙◌}
+use Rattle.std.proofs.{Common.{ap, ap₂, subst, arith}, lemmas.Bool.{cases_eq}}
+use Rattle.std.proofs.lemmas.List.{get_or-set_same, get_or-set_other, get_or-map, length-set, length-map}
 use Rattle.std.specs.List.{list_any}
 use Rattle.clause_pool.specs.{Interned.{Interned, IsPool, Kept, row_at}, Clauses.{apart_from, in_row_order}}
 use Rattle.clause_pool.proofs.{Lists.{In_at}, Clauses.{apart_cases, minimal_of_parts}, Order.{ordered_parts}}

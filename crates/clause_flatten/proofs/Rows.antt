@@ -1,7 +1,8 @@
 -- The computed row is the row.
-use Rattle.std.proofs.Common.{◌≡◌, ℕ, ◌<◌, Bool, true, not, ◌&&◌, ◌||◌, eqb, List, [], ◌∷◌, length, ◌⊎◌, inl, inr, refl, sym, subst, arith, eq-eqb, eqb-true, zero-le}
-use Rattle.std.proofs.lemmas.Bool.{both_ways, cases_Bool, cases_lt, and_parts, and_from, or_cases, or_left, or_right, not_from_false, not-true, false_from_ne_true}
-use Rattle.std.proofs.lemmas.List.{get_or_past}
+use Rattle.std.proofs.Common.{◌≡◌, ℕ, ◌<◌, Bool, true, not, ◌&&◌, ◌||◌, eqb, List, [], ◌∷◌, length, ◌⊎◌, inl, inr, refl, sym, subst, arith, eq-eqb, eqb-true}
+use Rattle.std.proofs.Common.{zero-le}
+use Rattle.std.proofs.lemmas.Bool.{both_ways, cases_Bool, cases_lt, and_parts, and_from, or_cases, or_left, or_right, not_from_false, not-true}
+use Rattle.std.proofs.{lemmas.Bool.{false_from_ne_true}, lemmas.List.{get_or_past}}
 use Rattle.std.specs.List.{list_all, list_any}
 use Rattle.row_book.specs.{Sets.{Hit, Is, NumSet, minus, without}, Repository.{Repository, Satisfied, clauses_of}, Numbers.{subsets}}
 use Rattle.row_book.specs.Support.{Alive, Blocks, IsRow, MinimalBlock, Support, among, blocks, is_minimal_block, is_supported, row, supports}

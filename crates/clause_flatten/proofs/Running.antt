@@ -1,13 +1,14 @@
 -- The run of flattening over rows in a pool: where it stands after so many steps.
-use Rattle.std.proofs.Common.{◌≡◌, ℕ, zero, suc, ◌<◌, ◌≤◌, ◌+◌, ◌-◌, Bool, true, false, not, ◌&&◌, ◌||◌, eqb, ltb, cond, List, length, filter, replicate, slice_set, ◌≢◌, inl, inr, refl, sym, ◌∙◌, ap, subst, arith, map, Option, Some, None, ne_eqb}
-use Rattle.std.proofs.lemmas.Bool.{cases_eq, cases_lt}
+use Rattle.std.proofs.Common.{◌≡◌, ℕ, zero, suc, ◌<◌, ◌≤◌, ◌+◌, ◌-◌, Bool, true, false, not, ◌&&◌, ◌||◌, eqb, ltb, cond, List, length, filter, replicate}
+use Rattle.std.proofs.{Common.{slice_set, ◌≢◌, inl, inr, refl, sym, ◌∙◌, ap, subst, arith, map, Option, Some, None, ne_eqb}, lemmas.Bool.{cases_eq, cases_lt}}
 use Rattle.std.specs.List.{find}
 use Rattle.std.proofs.lemmas.List as lists
 use Rattle.clause_pool.specs.Interned.{Interned, IsPool, Kept, clauses_at, row_at}
 use Rattle.clause_pool.proofs.Interned.{kept_along, kept_same}
 use Rattle.row_book.specs.{declared.book.Book.{Book}, Sets.{NumSet, without}, Repository.{Repository}, Numbers.{numbers}, Holders.{Holders}}
 use Rattle.row_book.specs.{Book.{Sound, repository_of}, Flags.{flag}}
-use Rattle.row_book.specs.Flattening.{Passed, Remaining, at_last, flat, gone_or_held, has_conflict, held_of, may_go, next_gone, none_gone, packages, passed_by, passes, remaining_after, row_length, rows_over}
+use Rattle.row_book.specs.Flattening.{Passed, Remaining, at_last, flat, gone_or_held, has_conflict, held_of, may_go, next_gone, none_gone, packages, passed_by}
+use Rattle.row_book.specs.Flattening.{passes, remaining_after, row_length, rows_over}
 use Rattle.row_book.proofs.{Sets.{plus_new}, Books.{sound_clauses}, Numbers.{numbers_parts}}
 use Rattle.listed.proofs.Lists.{filter_same, find_some}
 use Rattle.clause_flatten.specs.{Ready.{AreReady, table_of}, Substitution.{table_without, table_passes, length_in}, Refusals.{OnLimit}}

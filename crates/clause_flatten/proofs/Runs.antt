@@ -1,5 +1,6 @@
 -- A package taken out of a table of rows, and what is looked at then.
-use Rattle.std.proofs.Common.{◌≡◌, ◌≢◌, ℕ, zero, suc, ◌<◌, ◌≤◌, ◌+◌, Bool, true, false, ◌&&◌, ◌||◌, eqb, ltb, cond, List, [], ◌∷◌, ◌++◌, length, get_or, inl, inr, refl, sym, ◌∙◌, ap, subst, arith, take, Some, None, eq-eqb, eqb-true, ne_eqb, zero-le}
+use Rattle.std.proofs.Common.{◌≡◌, ◌≢◌, ℕ, zero, suc, ◌<◌, ◌≤◌, ◌+◌, Bool, true, false, ◌&&◌, ◌||◌, eqb, ltb, cond, List, [], ◌∷◌, ◌++◌, length, get_or, inl}
+use Rattle.std.proofs.Common.{inr, refl, sym, ◌∙◌, ap, subst, arith, take, Some, None, eq-eqb, eqb-true, ne_eqb, zero-le}
 use Rattle.std.proofs.lemmas.Bool.{cond-true, cond-false, ltb-false}
 use Rattle.std.specs.{List.{find}, Option.{option_map}}
 use Rattle.std.proofs.lemmas.List as lists

@@ -1,11 +1,14 @@
 -- The stages of elimination: their tables, their end, and what is left.
-use Rattle.std.proofs.Common.{◌≡◌, ℕ, zero, suc, ◌<◌, ◌≤◌, ◌+◌, ◌-◌, Bool, true, false, not, ◌&&◌, ◌||◌, eqb, ltb, cond, List, [], ◌∷◌, length, ◌⊎◌, inl, inr, refl, sym, ◌∙◌, ap, ap₂, subst, arith, filter, Option, Some, None, zero-le}
+use Rattle.std.proofs.Common.{◌≡◌, ℕ, zero, suc, ◌<◌, ◌≤◌, ◌+◌, ◌-◌, Bool, true, false, not, ◌&&◌, ◌||◌, eqb, ltb, cond, List, [], ◌∷◌, length, ◌⊎◌, inl, inr}
+use Rattle.std.proofs.Common.{refl, sym, ◌∙◌, ap, ap₂, subst, arith, filter, Option, Some, None, zero-le}
 use Rattle.std.proofs.lemmas.Bool.{both_ways, cases_Bool, false_from_ne_true, true_from_ne_false, lt-ltb, ltb-true}
 use Rattle.std.specs.{List.{find, list_any}, Option.{option_map}}
 use Rattle.listed.specs.Lists.{In, here, there}
 use Rattle.row_book.specs.{Sets.{NumSet, plus, without}, Repository.{Repository, clauses_of}, Numbers.{numbers}, Support.{row}}
 use Rattle.row_book.specs.Sound.{OfPackages, SoundClauses}
-use Rattle.row_book.specs.Flattening.{all_packages, at_last, core_of, first_some, flat, gone_or_held, has_conflict, is_held, may_go, next_gone, none_gone, packages, Passed, passed_at, passed_by, passes, passes_over, remaining_after, row_length, rows_over, sooner, is_soonest, Remaining}
+use Rattle.row_book.specs.Flattening.{all_packages, at_last, core_of, first_some, flat, gone_or_held, has_conflict, is_held, may_go, next_gone, none_gone}
+use Rattle.row_book.specs.Flattening.{packages, Passed, passed_at, passed_by, passes, passes_over, remaining_after, row_length, rows_over, sooner, is_soonest}
+use Rattle.row_book.specs.Flattening.{Remaining}
 use Rattle.clause_pool.specs.Clauses.{apart_from, minimal_of, in_row_order}
 use Rattle.clause_flatten.specs.Substitution.{choice_in, first_table, length_in, next_stage, passes_by_stages, stage_after, stage_holding, table_passes, Stage}
 use Rattle.clause_flatten.specs.FlatLaws.{CoreIsReached, CoreStays, FlatByStages, PassesByStages, StagesRun, WithoutHold, left_after, less_one, none_held}

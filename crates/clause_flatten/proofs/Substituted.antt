@@ -9,7 +9,8 @@ use Rattle.row_book.proofs.{Sets.{Hit-mono, plus_cases, plus_new, plus_old, with
 use Rattle.listed.proofs.Lists.{decided_in}
 use Rattle.clause_pool.proofs.Clauses.{apart_cases, apart_in, minimal_of_parts}
 use Rattle.clause_flatten.proofs.{Supports.{one_step_lem, with_user_cases}, Blocking.{row_from_hits, row_says, support_from_hits}}
-use Rattle.clause_families.proofs.Unions.{Comes, dropped_from, dropped_parts, joined_ascending, joined_cases, joined_left, joined_right, replaced_cases, replaced_joined, replaced_kept}
+use Rattle.clause_families.proofs.Unions.{Comes, dropped_from, dropped_parts, joined_ascending, joined_cases, joined_left, joined_right, replaced_cases}
+use Rattle.clause_families.proofs.Unions.{replaced_joined, replaced_kept}
 
 pub row_tells_lem : RowTells
 row_tells_lem R V p rows bound r X w = row_says R V p (length R.clauses) bound rows r X w

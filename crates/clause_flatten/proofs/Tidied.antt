@@ -1,12 +1,14 @@
 -- The first rows: the clauses that stay are the minimal ones that do not hold the package.
-use Rattle.std.proofs.Common.{◌≡◌, ℕ, ◌<◌, ◌≤◌, ◌+◌, Bool, true, false, not, ◌&&◌, ◌||◌, eqb, ltb, cond, List, [], ◌∷◌, ◌++◌, length, get_or, inl, inr, refl, sym, ◌∙◌, ap, ap₂, subst, arith, filter, map, Some}
-use Rattle.std.proofs.lemmas.Bool.{both_ways, cases_Bool, cases_lt, true_from_ne_false, and_parts, and_from, not_from_false, not-true, false_from_ne_true, ltb-true, lt-ltb}
+use Rattle.std.proofs.Common.{◌≡◌, ℕ, ◌<◌, ◌≤◌, ◌+◌, Bool, true, false, not, ◌&&◌, ◌||◌, eqb, ltb, cond, List, [], ◌∷◌, ◌++◌, length, get_or, inl, inr, refl}
+use Rattle.std.proofs.Common.{sym, ◌∙◌, ap, ap₂, subst, arith, filter, map, Some}
+use Rattle.std.proofs.lemmas.Bool.{both_ways, cases_Bool, cases_lt, true_from_ne_false, and_parts, and_from, not_from_false, not-true, false_from_ne_true}
+use Rattle.std.proofs.lemmas.Bool.{ltb-true, lt-ltb}
 use Rattle.std.specs.{List.{list_any}, Cmp.Lexicographic.{pointwise}}
 use Rattle.std.proofs.lemmas.List as lists
 use Rattle.std.proofs.lemmas.List.{get_or_default}
 use Rattle.listed.proofs.Bools.{same_bool}
-use Rattle.listed.proofs.Lists.{In_append_cases, In_cases, In_has, In_map, In_map_cases, In_none, any_cases, any_from, any_none, filter_cases, filter_from, has_not, In_at}
-use Rattle.listed.proofs.Orders.{ascending_same}
+use Rattle.listed.proofs.Lists.{In_append_cases, In_cases, In_has, In_map, In_map_cases, In_none, any_cases, any_from, any_none, filter_cases, filter_from}
+use Rattle.listed.proofs.{Lists.{has_not, In_at}, Orders.{ascending_same}}
 use Rattle.clause_pool.specs.{Interned.{Interned, IsPool, OfPool, clause_at, clauses_at, ids_at, row_at}, Lists.{InOrder}, Clauses.{apart_from, minimal_of}}
 use Rattle.clause_pool.specs.Within.{is_within, some_within}
 use Rattle.listed.specs.Lists.{In, has, here, there, Ascending, Inside, is_inside}

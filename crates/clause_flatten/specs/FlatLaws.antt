@@ -1,8 +1,11 @@
 -- The laws of the computed rows, of elimination and of the flattened repository.
-use Rattle.std.specs.Prelude.{◌≡◌, ◌≢◌, ℕ, zero, suc, ◌<◌, ◌≤◌, Bool, true, List, length, ◌⊎◌, ◌↔◌, false, Option, Some, None}
-use Rattle.row_book.specs.{Sets.{NumSet, without}, Repository.{Repository, Coinst, clauses_of}, Support.{IsRow, row}}
-use Rattle.row_book.specs.Sound.{OfPackages, SoundClauses, BetweenPackages}
-use Rattle.row_book.specs.Flattening.{all_packages, at_last, has_conflict, row_length, next_gone, remaining_after, core_of, is_held, rows_over, flat, passes, Remaining}
+use Rattle.std.specs.Prelude.{◌≡◌, ◌≢◌, ℕ, zero, suc, ◌<◌, ◌≤◌, Bool, true, List, length, ◌⊎◌, ◌↔◌}
+use Rattle.std.specs.Prelude.{false, Option, Some, None}
+use Rattle.row_book.specs.{Sets.{NumSet, without}, Repository.{Repository, Coinst, clauses_of}}
+use Rattle.row_book.specs.{Support.{IsRow, row}, Sound.{OfPackages, SoundClauses, BetweenPackages}}
+use Rattle.row_book.specs.Flattening.{all_packages, at_last, has_conflict, row_length, next_gone}
+use Rattle.row_book.specs.Flattening.{remaining_after, core_of, is_held, rows_over, flat, passes}
+use Rattle.row_book.specs.Flattening.{Remaining}
 use Rattle.listed.specs.Lists.{In}
 use Rattle.clause_pool.specs.{Lists.{InOrder}, Clauses.{in_row_order}}
 use Rattle.clause_families.specs.Unions.{substituted}

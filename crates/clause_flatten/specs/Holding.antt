@@ -1,6 +1,7 @@
 -- for the bodies of this crate alone
 -- How many clauses a row can have once a package is taken out.
-use Rattle.std.specs.{Prelude.{ℕ, ◌+◌, ◌*◌, ltb, cond, List, length, Option, Some, None}, List.{filter}}
+use Rattle.std.specs.Prelude.{ℕ, ◌+◌, ◌*◌, ltb, cond, List, length, Option, Some, None}
+use Rattle.std.specs.List.{filter}
 use Rattle.listed.specs.Lists.{has}
 use Rattle.clause_pool.specs.Clauses.{apart_from}
 

@@ -1,7 +1,9 @@
 -- The laws of support and of rows, over any set V that is left.
 use Rattle.std.specs.Prelude.{◌≡◌, ◌≢◌, ℕ, ◌<◌, true, false, List, length, ◌⊎◌, ◌↔◌, cond}
-use Rattle.row_book.specs.{Sets.{NumSet, Within, Is, HitsAll, plus, without, union}, Repository.{Repository, Coinst, Healthy, Satisfied, clauses_of, against}}
-use Rattle.row_book.specs.{Support.{Support, IsRow}, Sound.{OfPackages, SoundClauses}, Flattening.{all_packages}}
+use Rattle.row_book.specs.Sets.{NumSet, Within, Is, HitsAll, plus, without, union}
+use Rattle.row_book.specs.Repository.{Repository, Coinst, Healthy, Satisfied, clauses_of, against}
+use Rattle.row_book.specs.{Support.{Support, IsRow}, Sound.{OfPackages, SoundClauses}}
+use Rattle.row_book.specs.Flattening.{all_packages}
 use Rattle.clause_pool.specs.Clauses.{minimal_of, apart_from}
 use Rattle.clause_families.specs.Unions.{substituted}
 

@@ -1,5 +1,5 @@
 -- for the bodies of this crate alone
--- Rows that packages can be taken out of, each as the ids of its clauses.
+-- Rows from which packages can be taken out. A row is a list of the ids of its clauses.
 use Rattle.std.specs.Prelude.{◌≡◌, ℕ, List, map}
 use Rattle.clause_pool.specs.Interned.{Interned, clauses_at}
 use Rattle.listed.specs.Lists.{In, Inside}

@@ -1,7 +1,8 @@
 -- When a book is refused.
 use Rattle.std.specs.Prelude.{⊤}
 use Rattle.row_book.specs.Flattening.{Passed}
-use Rattle.clause_flatten.specs.{declared.error.FlatError.{FlatError}, declared.error.FlatError.TheVariants.{Limit, Memory}}
+use Rattle.clause_flatten.specs.declared.error.FlatError.{FlatError}
+use Rattle.clause_flatten.specs.declared.error.FlatError.TheVariants.{Limit, Memory}
 
 -- what holds of the row that has too many clauses, if that is the error, and nothing if no memory
 -- is found

@@ -1,7 +1,10 @@
 -- Tables of rows and stages: a package is taken out of all rows by substitution.
-use Rattle.std.specs.{Prelude.{ℕ, zero, suc, Bool, ◌&&◌, eqb, ltb, cond, List, [], map, length, slice_index_or, slice_set, Option, Some, None}, List.{list_any}}
-use Rattle.row_book.specs.{Sets.{plus, without}, Repository.{Repository, clauses_of}, Numbers.{numbers}}
-use Rattle.row_book.specs.Flattening.{packages, none_gone, may_go, soonest, Passed, passed_by, first_some, stages_tried, Remaining}
+use Rattle.std.specs.Prelude.{ℕ, zero, suc, Bool, ◌&&◌, eqb, ltb, cond, List, [], map, length}
+use Rattle.std.specs.{Prelude.{slice_index_or, slice_set, Option, Some, None}, List.{list_any}}
+use Rattle.row_book.specs.{Sets.{plus, without}, Repository.{Repository, clauses_of}}
+use Rattle.row_book.specs.Numbers.{numbers}
+use Rattle.row_book.specs.Flattening.{packages, none_gone, may_go, soonest, Passed, passed_by}
+use Rattle.row_book.specs.Flattening.{first_some, stages_tried, Remaining}
 use Rattle.clause_pool.specs.Clauses.{apart_from, minimal_of, in_row_order}
 use Rattle.clause_families.specs.Unions.{substituted}
 

@@ -3,7 +3,8 @@ ghost use Rattle.std.specs.Prelude.{◌≡◌, ◌<◌, ℕ, IfOk, OnErr, OnOk, 
 ghost use Rattle.clause_pool.specs.{Interned.{clauses_at, Kept, OfPool}, Clauses.{apart_from}};
 ghost use Rattle.row_book.specs.Holders.{users_in, ArePlaced};
 ghost use Rattle.listed.specs.Lists.{In};
-ghost use Rattle.clause_flatten.specs.{Ready.{table_of, AreReady}, Substitution.{table_turned, table_without}};
+ghost use Rattle.clause_flatten.specs.Ready.{table_of, AreReady};
+ghost use Rattle.clause_flatten.specs.Substitution.{table_turned, table_without};
 
 use clause_families::{useful_of, with_unions};
 use clause_pool::{ClauseId, Pool};

@@ -1,6 +1,8 @@
 //! The laws of elimination and of the flattened repository.
 
-ghost use Rattle.clause_flatten.specs.FlatLaws.{CoreIsReached, CoreStays, FlatByStages, FlatKeeps, HeldIsUsed, HoldStaysWithin, NextIsLeast, OneRow, PassesByStages, StagesRun, TableStep, WithoutHold};
+ghost use Rattle.clause_flatten.specs.FlatLaws.{CoreIsReached, CoreStays, FlatByStages, FlatKeeps};
+ghost use Rattle.clause_flatten.specs.FlatLaws.{HeldIsUsed, HoldStaysWithin, NextIsLeast};
+ghost use Rattle.clause_flatten.specs.FlatLaws.{PassesByStages, StagesRun, TableStep, WithoutHold};
 
 /// A set is co-installable in the flattened repository exactly if it is in the repository.
 pub fn flat_keeps()
@@ -36,11 +38,6 @@ pub fn without_hold()
 /// The core is what is left once no package can be taken out any more.
 pub fn core_is_reached()
     ensures { CoreIsReached }
-{}
-
-/// Substitution gives the next row of a package, in lexicographic order.
-pub fn one_row()
-    ensures { OneRow }
 {}
 
 /// Substitution in all rows gives the next table of rows.

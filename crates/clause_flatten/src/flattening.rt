@@ -2,11 +2,16 @@
 //!
 //! Until the end a row is a list of the ids of its clauses, outside the pool: one that is rewritten
 //! many times would leave each of its versions there.
-ghost use Rattle.std.specs.{Prelude.{◌≡◌, ◌<◌, ◌≤◌, ℕ, ◌&&◌, ltb, false, None, Some, IfOk, IfErr, OnOk, length, map, replicate, slice_set}, List.{filter}};
-ghost use Rattle.clause_pool.specs.{Interned.{clauses_at, row_at, Interned, Kept, OfPool}, Lists.{InOrder}};
-ghost use Rattle.row_book.specs.{Book.{repository_of, AreConflicts, RowsFit, Sound}, Numbers.{numbers}, Flags.{flag}, Flattening.{flat, held_of, passes}};
-ghost use Rattle.row_book.specs.{Holders.{ListsFit}, Repository.{Repository}};
-ghost use Rattle.clause_flatten.specs.{Ready.{table_of, AreReady, ListsTidy}, Refusals.{OnLimit}, Substitution.{length_in}, TakingOut.{is_free}};
+ghost use Rattle.std.specs.Prelude.{◌≡◌, ◌<◌, ◌≤◌, ℕ, ◌&&◌, ltb, false, None, Some, IfOk, IfErr};
+ghost use Rattle.std.specs.{Prelude.{OnOk, length, map, replicate, slice_set}, List.{filter}};
+ghost use Rattle.clause_pool.specs.Interned.{clauses_at, row_at, Interned, Kept, OfPool};
+ghost use Rattle.clause_pool.specs.Lists.{InOrder};
+ghost use Rattle.row_book.specs.Book.{repository_of, AreConflicts, RowsFit, Sound};
+ghost use Rattle.row_book.specs.{Numbers.{numbers}, Flags.{flag}};
+ghost use Rattle.row_book.specs.{Flattening.{flat, held_of, passes}, Holders.{ListsFit}};
+ghost use Rattle.row_book.specs.{Keeping.{KeepsSets}, Repository.{Repository}};
+ghost use Rattle.clause_flatten.specs.{Ready.{table_of, AreReady, ListsTidy}, Refusals.{OnLimit}};
+ghost use Rattle.clause_flatten.specs.{Substitution.{length_in}, TakingOut.{is_free}};
 ghost use Rattle.clause_flatten.specs.{TidyRows.{tidied_table}, Waiting.{Filed}};
 
 use crate::error::FlatError;
@@ -187,6 +192,7 @@ fn eliminate_all(
     let mut uses = ClauseTable::of(alloc, pool, rows)?;
     let mut waiting = waiting_in(alloc, rows, book)?;
     let answer = take_all_out(alloc, pool, rows, &mut uses, &mut waiting, book, rule);
+    // Their one end: a proof follows each field at every end of the body that owns it.
     drop(waiting);
     drop(uses);
     answer
@@ -234,6 +240,8 @@ pub fn flatten(
         ≡ flat limit hold (repository_of pool.old book.now)) }
     ensures held { IfOk result (λ made. made.held
         ≡ held_of limit hold (repository_of pool.old book.now)) }
+    ensures keeps { IfOk result (λ made.
+        KeepsSets (repository_of pool.old book.now) (repository_of pool.new made.book)) }
     ensures sound { IfOk result (λ made. Sound pool.new made.book) }
     ensures within { OnOk result (passes limit hold (repository_of pool.old book.now) ≡ None) }
     ensures passed { IfErr result (OnLimit (λ passed.

@@ -1,13 +1,18 @@
 //! Whether a row would pass the clause limit once a package is taken out, found without a change of
 //! the pool or the rows.
 //!
-//! A bound is tried first. Only if it passes the limit are the clauses counted, which makes no row.
-ghost use Rattle.std.specs.{Prelude.{◌≡◌, ◌≢◌, ℕ, ◌<◌, ◌≤◌, List, IfOk, length}, List.{find}, Option.{option_map, ForSome}};
-ghost use Rattle.clause_pool.specs.{Interned.{clauses_at, OfPool, IsPool}, Clauses.{in_row_order}, Lists.{InOrder}};
+//! Two bounds are tried first, the coarser one without a look at a clause. Only if both pass the
+//! limit are the clauses counted, which makes no row.
+ghost use Rattle.std.specs.Prelude.{◌≡◌, ◌≢◌, ℕ, ◌+◌, ◌*◌, ◌<◌, ◌≤◌, List, IfOk, length};
+ghost use Rattle.std.specs.{List.{find}, Option.{option_map, ForSome}};
+ghost use Rattle.clause_pool.specs.{Interned.{clauses_at, OfPool, IsPool}, Clauses.{in_row_order}};
+ghost use Rattle.clause_pool.specs.Lists.{InOrder};
 ghost use Rattle.listed.specs.Lists.{In, Inside};
 ghost use Rattle.row_book.specs.Holders.{users_in, ListsFit};
-ghost use Rattle.clause_flatten.specs.{Ready.{table_of, AreReady, ListsTidy}, Holding.{clauses_with, most_clauses, over_limit}};
-ghost use Rattle.clause_flatten.specs.{Substitution.{length_in, table_passes, table_without}, TakingOut.{is_over}};
+ghost use Rattle.clause_flatten.specs.Ready.{table_of, AreReady, ListsTidy};
+ghost use Rattle.clause_flatten.specs.Holding.{clauses_with, most_clauses, over_limit};
+ghost use Rattle.clause_flatten.specs.Substitution.{length_in, table_passes, table_without};
+ghost use Rattle.clause_flatten.specs.TakingOut.{is_over};
 ghost use Rattle.clause_families.specs.Unions.{substituted};
 
 use clause_families::{count_with_unions, useful_of};
@@ -104,7 +109,7 @@ fn count_over(
 }
 
 /// How many clauses the row of a user would have without the spent package, whose row is `others`,
-/// if these are more than the limit allows. They are counted only if a bound passes the limit.
+/// if these are more than the limit allows. They are counted only if both bounds pass the limit.
 fn row_over(
     alloc: Global,
     pool: &Pool,
@@ -129,6 +134,10 @@ fn row_over(
         ≡ over_limit limit (length (in_row_order
         (substituted user spent (clauses_at pool.now row.now) (clauses_at pool.now others.now))))) }
 {
+    let coarse = coarse_bound(row, others);
+    if coarse <= u64::from(limit) {
+        return Ok(None);
+    }
     let most = most_clauses(pool, spent, row, others);
     if most <= u64::from(limit) {
         return Ok(None);
@@ -146,6 +155,17 @@ fn more_than(count: u64, limit: u32) -> Option<u64>
         return Some(count);
     }
     None
+}
+
+/// How many clauses a row can have at most: each one may stay, or give one for each clause of the
+/// spent package's row. It looks at no clause.
+fn coarse_bound(row: &[ClauseId], others: &[ClauseId]) -> u64
+    requires few { length row.now < 4294967296 }
+    requires few_others { length others.now < 4294967296 }
+    ensures { result ≡ length row.now + length row.now * length others.now }
+{
+    let count = row.len() as u64;
+    count + count * others.len() as u64
 }
 
 /// How many clauses the row can have at most: each one that holds the spent package may give one

@@ -29,10 +29,10 @@ pub use substitution::eliminate;
 // Laws of eliminations, and of sets that are kept.
 pub use elimination::{
     core_is_reached, core_stays, flat_by_stages, flat_keeps, held_is_used, hold_stays_within,
-    next_is_least, one_row, passes_by_stages, stages_run, table_step, without_hold,
+    next_is_least, passes_by_stages, stages_run, table_step, without_hold,
 };
 pub use locality::{flat_is_local, limit_is_local};
 pub use support::{
-    first_rows, keeps_every_set, lift_is_healthy, one_step, own_row_stays, row_computes,
-    row_is_one, row_tells, substitutes, support_grows, untouched_stays,
+    first_rows, keeps_every_set, lift_is_healthy, own_row_stays, row_computes, row_is_one,
+    row_tells, substitutes,
 };

@@ -1,5 +1,6 @@
 //! One elimination: a package is taken out of all rows.
-ghost use Rattle.std.specs.Prelude.{◌≡◌, ◌≢◌, ◌<◌, ◌⊎◌, ℕ, List, IfOk, OnErr, OnOk, length, map, slice_set};
+ghost use Rattle.std.specs.Prelude.{◌≡◌, ◌≢◌, ◌<◌, ◌⊎◌, ℕ, List, IfOk, OnErr, OnOk, length, map};
+ghost use Rattle.std.specs.Prelude.{slice_set};
 ghost use Rattle.clause_pool.specs.{Interned.{row_at, Kept}, Clauses.{in_row_order}};
 ghost use Rattle.row_book.specs.{Book.{RowsFit, RowsTidy}, Uses.{row_id, users_of, uses_of}};
 ghost use Rattle.listed.specs.Lists.{In};

@@ -1,21 +1,12 @@
 //! The laws of support and of rows, over any set of packages that is left.
 
-ghost use Rattle.clause_flatten.specs.Laws.{FirstRows, KeepsEverySet, LiftIsHealthy, OneStep, OwnRowStays, RowTells, Substitutes, SupportGrows};
-ghost use Rattle.clause_flatten.specs.FlatLaws.{RowComputes, RowIsOne, UntouchedStays};
-
-/// What supports a package still does when it grows.
-pub fn support_grows()
-    ensures { SupportGrows }
-{}
+ghost use Rattle.clause_flatten.specs.Laws.{FirstRows, KeepsEverySet, LiftIsHealthy, OwnRowStays};
+ghost use Rattle.clause_flatten.specs.Laws.{RowTells, Substitutes};
+ghost use Rattle.clause_flatten.specs.FlatLaws.{RowComputes, RowIsOne};
 
 /// A set supports a package exactly if it hits each clause of the package's row.
 pub fn row_tells()
     ensures { RowTells }
-{}
-
-/// What supports a package once one more package is taken out.
-pub fn one_step()
-    ensures { OneStep }
 {}
 
 /// Substitution gives the rows once one more package is taken out.
@@ -52,9 +43,4 @@ pub fn keeps_every_set()
 /// packages without conflicts that it serves is put in.
 pub fn lift_is_healthy()
     ensures { LiftIsHealthy }
-{}
-
-/// A row stays as it is if none of its clauses holds the package that is taken out.
-pub fn untouched_stays()
-    ensures { UntouchedStays }
 {}

@@ -3,12 +3,15 @@
 //! The limit is tried on the rows after the whole step, also on those of packages that are gone.
 //! Only rows that change are looked at, in ascending order, so the first over the limit is the
 //! least. They are counted before they are made: a row that is refused is not made.
-ghost use Rattle.std.specs.{Prelude.{◌≡◌, ◌<◌, ◌≤◌, ◌&&◌, ℕ, Bool, false, cond, Some, IfOk, IfErr, OnOk, length}, List.{find}};
+ghost use Rattle.std.specs.Prelude.{◌≡◌, ◌<◌, ◌≤◌, ◌&&◌, ℕ, Bool, false, cond, Some, IfOk, IfErr};
+ghost use Rattle.std.specs.{Prelude.{OnOk, length}, List.{find}};
 ghost use Rattle.clause_pool.specs.Interned.{Interned, Kept};
 ghost use Rattle.listed.specs.Lists.{In, Ascending};
 ghost use Rattle.row_book.specs.{Numbers.{numbers}, Flattening.{passed_by}};
-ghost use Rattle.clause_flatten.specs.{Ready.{table_of, AreReady}, Substitution.{table_without, table_passes, length_in}, Refusals.{OnLimit}};
-ghost use Rattle.clause_flatten.specs.{Waiting.{never, Filed}, TakingOut.{counted_anew, is_over}};
+ghost use Rattle.clause_flatten.specs.Ready.{table_of, AreReady};
+ghost use Rattle.clause_flatten.specs.Substitution.{table_without, table_passes, length_in};
+ghost use Rattle.clause_flatten.specs.{Refusals.{OnLimit}, Waiting.{never, Filed}};
+ghost use Rattle.clause_flatten.specs.TakingOut.{counted_anew, is_over};
 
 use crate::changing::change_rows;
 use crate::error::FlatError;

@@ -1,9 +1,11 @@
 //! The rows before any package is taken out.
 ghost use Rattle.std.specs.{Prelude.{◌≡◌, ◌<◌, ℕ, List, IfOk, length, map}, List.{filter}};
-ghost use Rattle.clause_pool.specs.{Interned.{clause_at, clauses_at, row_at, OfPool, IsPool}, Lists.{InOrder}};
+ghost use Rattle.clause_pool.specs.Interned.{clause_at, clauses_at, row_at, OfPool, IsPool};
+ghost use Rattle.clause_pool.specs.Lists.{InOrder};
 ghost use Rattle.row_book.specs.{Book.{RowsFit}, Holders.{ListsFit}};
 ghost use Rattle.listed.specs.Lists.{Ascending, In};
-ghost use Rattle.clause_flatten.specs.{Ready.{table_of, ListsTidy}, TidyRows.{begins_empty, first_row, tidied_table}};
+ghost use Rattle.clause_flatten.specs.Ready.{table_of, ListsTidy};
+ghost use Rattle.clause_flatten.specs.TidyRows.{begins_empty, first_row, tidied_table};
 ghost use Rattle.clause_families.specs.Inclusion.{stays};
 
 use clause_pool::{ClauseId, Pool, RowId, has_within};

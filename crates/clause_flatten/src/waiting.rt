@@ -1,5 +1,6 @@
 //! The packages that wait to be taken out.
-ghost use Rattle.std.specs.Prelude.{◌≡◌, ◌≢◌, ◌<◌, ◌≤◌, ℕ, Bool, false, IfNone, IfOk, IfSome, length, replicate};
+ghost use Rattle.std.specs.Prelude.{◌≡◌, ◌≢◌, ◌<◌, ◌≤◌, ℕ, Bool, false, IfNone, IfOk, IfSome};
+ghost use Rattle.std.specs.Prelude.{length, replicate};
 ghost use Rattle.row_book.specs.Sets.{plus, without};
 ghost use Rattle.clause_flatten.specs.Waiting.{never, turn, Filed, IsFirst, recounted};
 

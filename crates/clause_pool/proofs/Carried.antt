@@ -1,7 +1,7 @@
 -- Rows of one pool that come into another, one after another.
-use Rattle.std.proofs.Common.{◌≡◌, ℕ, zero, suc, ◌<◌, ◌≤◌, ◌+◌, List, [], ◌∷◌, ◌++◌, inl, inr, refl, sym, ◌∙◌, ap, ap₂, subst, length, get_or, take, map, arith, length-append}
-use Rattle.std.proofs.{lemmas.Bool.{cases_eq, cases_lt}, lemmas.List.{get_or_default, get_or-set_other, get_or-set_same, map-append, take_more}}
-use Rattle.std.proofs.lemmas.Option.{none-some, same_Some}
+use Rattle.std.proofs.Common.{◌≡◌, ℕ, zero, suc, ◌<◌, ◌≤◌, ◌+◌, List, [], ◌∷◌, ◌++◌, inl, inr, refl, sym, ◌∙◌, ap, ap₂, subst, length, get_or, take, map, arith}
+use Rattle.std.proofs.{Common.{length-append}, lemmas.Bool.{cases_eq, cases_lt}}
+use Rattle.std.proofs.{lemmas.List.{get_or_default, get_or-set_other, get_or-set_same, map-append, take_more}, lemmas.Option.{none-some, same_Some}}
 use Rattle.std.specs.{Prelude.{Option, Some, None}, List.{slice_set}}
 use Rattle.listed.proofs.Lists.{In_append_left, In_append_right}
 use Rattle.clause_pool.specs.{Lists.{In, here, there}, Interned.{Interned, IsPool, Kept, Gains, clause_at, ids_at, row_at}}

@@ -1,10 +1,12 @@
 -- Groups of clauses of a pool that begin alike up to a depth, in the order of what they have from there on.
-use Rattle.std.proofs.Common.{◌≡◌, ℕ, zero, suc, ◌<◌, ◌≤◌, ◌+◌, ◌-◌, Bool, true, false, ◌||◌, cond, List, [], ◌∷◌, inl, inr, refl, sym, ◌∙◌, ap, subst, length, get_or, map, filter, take, drop, arith, eq-eqb, eqb-true, ne_eqb, Option}
+use Rattle.std.proofs.Common.{◌≡◌, ℕ, zero, suc, ◌<◌, ◌≤◌, ◌+◌, ◌-◌, Bool, true, false, ◌||◌, cond, List, [], ◌∷◌, inl, inr, refl, sym, ◌∙◌, ap, subst, length}
+use Rattle.std.proofs.Common.{get_or, map, filter, take, drop, arith, eq-eqb, eqb-true, ne_eqb, Option}
 use Rattle.std.proofs.lemmas.Bool.{and_from, and_parts, both_ways, cases_lt, cond-false, cond-true, false_from_ne_true}
 use Rattle.std.proofs.lemmas.List.{get_or-map, length-map, get_or_default}
 use Rattle.std.specs.List.{list_any}
 use Rattle.listed.proofs.Orders.{ascending_places, rest_ascends}
-use Rattle.listed.proofs.Lists.{In_drop, In_at, In_cases, In_has, In_map, In_map_cases, In_none, all_at, all_from, any_cases, any_from, filter_cases, filter_from, has_In}
+use Rattle.listed.proofs.Lists.{In_drop, In_at, In_cases, In_has, In_map, In_map_cases, In_none, all_at, all_from, any_cases, any_from, filter_cases}
+use Rattle.listed.proofs.Lists.{filter_from, has_In}
 use Rattle.clause_pool.specs.{Interned.{Interned, clause_at, clauses_at}, Lists.{Before, InOrder}}
 use Rattle.clause_pool.specs.Within.{goes_on, is_other, lead, rest_at, rest_within, some_within}
 use Rattle.clause_pool.proofs.{Lists.{In_place}, Leads.{order_lead}}

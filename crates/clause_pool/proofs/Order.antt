@@ -1,6 +1,8 @@
 -- The order of clauses, and families in order.
-use Rattle.std.proofs.Common.{◌≡◌, ℕ, ◌≤◌, Bool, true, false, ◌&&◌, eqb, ltb, cond, List, [], ◌∷◌, ◌++◌, ◌⊎◌, inl, inr, refl, sym, ◌∙◌, ap, ap₂, subst, arith, filter, eq-eqb, eqb-true}
-use Rattle.std.proofs.lemmas.Bool.{both_ways, and_parts, and_from, or_cases, or_parts, false_from_ne_true, false≢true, ltb-true, ltb-false, lt-ltb, or_left, or_right}
+use Rattle.std.proofs.Common.{◌≡◌, ℕ, ◌≤◌, Bool, true, false, ◌&&◌, eqb, ltb, cond, List, [], ◌∷◌, ◌++◌, ◌⊎◌, inl, inr, refl, sym, ◌∙◌, ap, ap₂, subst, arith}
+use Rattle.std.proofs.Common.{filter, eq-eqb, eqb-true}
+use Rattle.std.proofs.lemmas.Bool.{both_ways, and_parts, and_from, or_cases, or_parts, false_from_ne_true, false≢true, ltb-true, ltb-false, lt-ltb, or_left}
+use Rattle.std.proofs.lemmas.Bool.{or_right}
 use Rattle.listed.specs.Lists.{In, here, there}
 use Rattle.clause_pool.specs.{Lists.{Before, InOrder}, Clauses.{comes_before, insert_clause, in_row_order}}
 use Rattle.listed.proofs.Lists.{In_cases, In_none, filter_cases, In_append_cases}

@@ -1,6 +1,7 @@
 -- Families of clauses: those apart from a number, the minimal ones, and the order in which they are
 -- kept.
-use Rattle.std.specs.{Prelude.{ℕ, Bool, true, false, not, ◌&&◌, ◌||◌, eqb, ltb, cond, List, [], ◌∷◌}, List.{list_all, filter}}
+use Rattle.std.specs.Prelude.{ℕ, Bool, true, false, not, ◌&&◌, ◌||◌, eqb, ltb, cond, List, [], ◌∷◌}
+use Rattle.std.specs.List.{list_all, filter}
 use Rattle.listed.specs.Lists.{has, is_inside}
 
 -- the clauses that do not hold the number

@@ -1,5 +1,6 @@
--- What holds of pools has one proof at most, so that a struct may keep it.
-use Rattle.std.specs.{Prelude.{◌≡◌, ◌⊎◌, ℕ, List, [], ◌∷◌}, Coded.{Coded-set, coded_ℕ, ×_prop, Unit-prop, le_prop}}
+-- Facts on pools have one proof at most, so that a struct may keep them as ghost fields.
+use Rattle.std.specs.Prelude.{◌≡◌, ◌⊎◌, ℕ, List, [], ◌∷◌}
+use Rattle.std.specs.Coded.{Coded-set, coded_ℕ, ×_prop, Unit-prop, le_prop}
 use Rattle.std.proofs.{Common.{ap, inl, inr}, Math.Nat.{ne_of_lt}}
 use Rattle.clause_pool.specs.{Interned.{Interned, IsPool}, Lists.{Ascending, Before, In, InOrder}}
 

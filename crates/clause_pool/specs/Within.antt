@@ -1,6 +1,6 @@
 -- Whether a clause of a family lies within some numbers.
-use Rattle.std.specs.{Prelude.{ℕ, zero, suc, Bool, true, not, ◌&&◌, eqb, List, [], ◌∷◌, drop, Option, Some, None}, List.{list_any}}
-use Rattle.std.specs.Cmp.Lexicographic.{pointwise}
+use Rattle.std.specs.Prelude.{ℕ, zero, suc, Bool, true, not, ◌&&◌, eqb, List, [], ◌∷◌, drop, Option}
+use Rattle.std.specs.{Prelude.{Some, None}, List.{list_any}, Cmp.Lexicographic.{pointwise}}
 use Rattle.clause_pool.specs.Interned.{Interned, clause_at}
 use Rattle.listed.specs.Lists.{is_inside}
 

@@ -1,9 +1,11 @@
 //! Whether a clause of a row lies within some numbers. Rows are in lexicographic order, so only the
 //! clauses that begin with some of the numbers are looked at. No long row is gone over from end to
 //! end.
-ghost use Rattle.std.specs.{Prelude.{◌≡◌, ◌<◌, ◌≤◌, ◌+◌, ◌||◌, ℕ, drop, filter, length, map, slice_index_or}, Bool.{OnFalse, OnTrue}, List.{list_any}};
+ghost use Rattle.std.specs.Prelude.{◌≡◌, ◌<◌, ◌≤◌, ◌+◌, ◌||◌, ℕ, drop, filter, length, map};
+ghost use Rattle.std.specs.{Prelude.{slice_index_or}, Bool.{OnFalse, OnTrue}, List.{list_any}};
 ghost use Rattle.std.specs.Option.{option_map, ForSome};
-ghost use Rattle.clause_pool.specs.{Interned.{clause_at, clauses_at, IsPool, OfPool}, Lists.{InOrder}};
+ghost use Rattle.clause_pool.specs.Interned.{clause_at, clauses_at, IsPool, OfPool};
+ghost use Rattle.clause_pool.specs.Lists.{InOrder};
 ghost use Rattle.clause_pool.specs.Within.{goes_on, lead, rest_at, rest_within, some_within};
 ghost use Rattle.listed.specs.Lists.{has, In, is_inside, Ascending};
 

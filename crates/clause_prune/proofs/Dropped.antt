@@ -1,6 +1,6 @@
 -- One id less among ids of which each stands at one place.
-use Rattle.std.proofs.Common.{◌≡◌, ℕ, zero, suc, ◌<◌, not, cond, List, [], ◌∷◌, ◌++◌, length, get_or, take, drop, inl, inr, refl, sym, ◌∙◌, ap, subst, arith, eq-eqb, ne_eqb}
-use Rattle.std.proofs.lemmas.List.{get_or-map, length-map}
+use Rattle.std.proofs.Common.{◌≡◌, ℕ, zero, suc, ◌<◌, not, cond, List, [], ◌∷◌, ◌++◌, length, get_or, take, drop, inl, inr, refl, sym, ◌∙◌, ap, subst, arith}
+use Rattle.std.proofs.{Common.{eq-eqb, ne_eqb}, lemmas.List.{get_or-map, length-map}}
 use Rattle.clause_pool.specs.{Interned.{Interned, clause_at, clauses_at}, Lists.{Before, InOrder}}
 use Rattle.listed.proofs.Lists.{In_at}
 use Rattle.clause_prune.specs.Tests.{ids_without}

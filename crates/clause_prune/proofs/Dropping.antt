@@ -1,11 +1,13 @@
 -- Dead packages, forced and idle clauses, and the whole of pruning.
-use Rattle.std.proofs.Common.{◌≡◌, ◌≢◌, ℕ, ◌<◌, ◌≤◌, Bool, true, false, not, ◌&&◌, ◌||◌, eqb, cond, List, [], ◌∷◌, length, ◌⊎◌, inl, inr, refl, sym, ◌∙◌, ap, subst, arith, filter, ◌↔◌}
+use Rattle.std.proofs.Common.{◌≡◌, ◌≢◌, ℕ, ◌<◌, ◌≤◌, Bool, true, false, not, ◌&&◌, ◌||◌, eqb, cond, List, [], ◌∷◌, length, ◌⊎◌, inl, inr, refl, sym, ◌∙◌, ap}
+use Rattle.std.proofs.Common.{subst, arith, filter, ◌↔◌}
 use Rattle.std.proofs.lemmas.Bool.{both_ways, cases_eq, cases_lt, and_parts, and_cases, or_cases, not-true, not-false, false_from_ne_true}
 use Rattle.std.proofs.lemmas.List.{get_or_past}
 use Rattle.std.specs.{List.{list_all, list_any}, Cmp.Lexicographic.{pointwise}}
 use Rattle.row_book.specs.{Sets.{NumSet, Within, Hit, Is, plus}, Repository.{Repository, Healthy, Coinst, against, clauses_of}, Flattening.{packages}}
 use Rattle.row_book.specs.{Sound.{TidyRepository}, Facing.{sides}, Rounds.{weigh}}
-use Rattle.row_book.specs.Pruning.{made_dead, with_clauses, is_dead, with_empty_clause, others, without_clause, serves, is_forced, is_harmless, is_hit_anyway, is_idle, is_dropped, prune_clause, prune_clauses, prune_package, prune_over, prune, lift_idle}
+use Rattle.row_book.specs.Pruning.{made_dead, with_clauses, is_dead, with_empty_clause, others, without_clause, serves, is_forced, is_harmless, is_hit_anyway}
+use Rattle.row_book.specs.Pruning.{is_idle, is_dropped, prune_clause, prune_clauses, prune_package, prune_over, prune, lift_idle}
 use Rattle.listed.specs.Lists.{In, here, there, has, Inside, is_inside}
 use Rattle.clause_pool.specs.Lists.{InOrder}
 use Rattle.clause_pool.proofs.{Clauses.{inside_at}, Order.{order_filter}}
@@ -13,7 +15,8 @@ use Rattle.listed.proofs.Lists.{In_cases, In_none, has_In, all_at, any_cases}
 use Rattle.row_book.proofs.{Lists.{any_hit, hit_any}, Sets.{Hit-mono, plus_old, plus_new, plus_cases}}
 use Rattle.row_book.proofs.{Repositories.{both, healthy_coinst, Hit_inside, in_packages, symmetric}, Facing.{face_parts, side_hit}}
 use Rattle.clause_prune.specs.Laws.{DeadKeeps, ForcedKeeps, IdleLifts, IdleKeeps, PruneKeeps, PruneIsTidy}
-use Rattle.clause_prune.proofs.Changed.{size_same, row_new, row_other, row_cases, row_in, row_hits, to_row, from_row, others_parts, other_or, drop_from, drop_back, tidy_row, with_order}
+use Rattle.clause_prune.proofs.Changed.{size_same, row_new, row_other, row_cases, row_in, row_hits, to_row, from_row, others_parts, other_or, drop_from}
+use Rattle.clause_prune.proofs.Changed.{drop_back, tidy_row, with_order}
 
 -- dead
 dead_out : (R : Repository) (p : ℕ) (I : NumSet) → is_dead R p ≡ true → Healthy R I → Is I p → ⊥

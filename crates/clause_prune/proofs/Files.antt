@@ -1,5 +1,6 @@
 -- Packages that are filed under the first numbers of their clauses, with these.
-use Rattle.std.proofs.Common.{◌≡◌, ◌≢◌, ℕ, ◌<◌, ◌+◌, ◌%◌, Bool, true, false, ◌&&◌, ◌||◌, eqb, eq-eqb, eqb-true, List, [], ◌∷◌, ◌++◌, inl, inr, refl, sym, ◌∙◌, ap, ap₂, subst, length, length-set, get_or, map, take, Result, Ok, Err, OnOk}
+use Rattle.std.proofs.Common.{◌≡◌, ◌≢◌, ℕ, ◌<◌, ◌+◌, ◌%◌, Bool, true, false, ◌&&◌, ◌||◌, eqb, eq-eqb, eqb-true, List, [], ◌∷◌, ◌++◌, inl, inr, refl, sym, ◌∙◌}
+use Rattle.std.proofs.Common.{ap, ap₂, subst, length, length-set, get_or, map, take, Result, Ok, Err, OnOk}
 use Rattle.std.proofs.lemmas.Bool.{and_from, and_parts, cases_eq, or_cases, or_left, or_right}
 use Rattle.std.proofs.lemmas.List.{get_or-map, get_or-set_other, get_or-set_same, length-map, map-set, take_more}
 use Rattle.std.proofs.lemmas.List.Folds.{list_any-append, list_any_more}
@@ -7,9 +8,10 @@ use Rattle.std.specs.{Global.{Vec}, List.{slice_set, list_any}}
 use Rattle.clause_pool.specs.Interned.{Interned, OfPool, clause_at, clauses_at, row_at}
 use Rattle.listed.specs.Lists.{In, has, here, is_inside}
 use Rattle.row_book.specs.{Repository.{Repository, clauses_of}, Pruning.{serves}}
-use Rattle.listed.proofs.Lists.{In_append_cases, In_append_left, In_append_right, In_cases, In_has, In_map, In_map_cases, In_none, all_at, any_cases, any_from, has_In}
-use Rattle.clause_prune.specs.Filing.{AsksServing, Filed, FiledFor, Gains, IsFiled, Takes, asks, entries_at, entries_in, filed_within, tell_within, tells_within, under}
-use Rattle.clause_prune.specs.{Tests.{with_ids}, declared.filing.Entry.{Entry}}
+use Rattle.listed.proofs.Lists.{In_append_cases, In_append_left, In_append_right, In_cases, In_has, In_map, In_map_cases, In_none, all_at, any_cases, any_from}
+use Rattle.listed.proofs.Lists.{has_In}
+use Rattle.clause_prune.specs.Filing.{AsksServing, Filed, FiledFor, Gains, IsFiled, Takes, asks, entries_at, entries_in, filed_within, tell_within}
+use Rattle.clause_prune.specs.{Filing.{tells_within, under}, Tests.{with_ids}, declared.filing.Entry.{Entry}}
 use Rattle.clause_prune.proofs.Passing.{left_own}
 
 -- Who is asked.

@@ -1,7 +1,7 @@
 -- A clause is forced where another one lies within those that see to it that it is hit.
-use Rattle.std.proofs.Common.{◌≡◌, ℕ, ◌<◌, ◌+◌, Bool, true, false, not, ◌&&◌, ◌||◌, cond, eqb, List, [], ◌∷◌, ◌++◌, append-nil, append_assoc, refl, sym, ◌∙◌, inl, inr, ap, ap₂, filter, length, get_or, take, Some}
-use Rattle.std.proofs.{lemmas.Bool.{or_cases, or_left, or_right}, lemmas.List.{take_more}, lemmas.List.Elements.{filter-append}}
-use Rattle.std.proofs.lemmas.List.Folds.{list_any-append}
+use Rattle.std.proofs.Common.{◌≡◌, ℕ, ◌<◌, ◌+◌, Bool, true, false, not, ◌&&◌, ◌||◌, cond, eqb, List, [], ◌∷◌, ◌++◌, append-nil, append_assoc, refl, sym, ◌∙◌}
+use Rattle.std.proofs.{Common.{inl, inr, ap, ap₂, filter, length, get_or, take, Some}, lemmas.Bool.{or_cases, or_left, or_right}, lemmas.List.{take_more}}
+use Rattle.std.proofs.{lemmas.List.Elements.{filter-append}, lemmas.List.Folds.{list_any-append}}
 use Rattle.std.specs.{List.{list_any}, Cmp.Lexicographic.{pointwise}}
 use Rattle.listed.proofs.{Bools.{same_bool}, Lists.{In_has, all_same, filter_cases, filter_from, has_In}}
 use Rattle.clause_pool.specs.{Interned.{Interned}, Within.{is_within}}

@@ -1,11 +1,12 @@
 -- One clause fewer among those that are left.
-use Rattle.std.proofs.Common.{◌≡◌, ℕ, zero, suc, ◌<◌, Bool, true, false, not, ◌||◌, cond, eqb, List, [], ◌∷◌, ◌++◌, length, refl, sym, ◌∙◌, ap, ap₂, subst, inl, inr, map, filter, slice_set, append_assoc, get_or, Result, Ok, Err, OnOk, Option, Some, None, eq-eqb, ne_eqb}
-use Rattle.std.proofs.{lemmas.Bool.{cases_eq}, lemmas.List.{get_or-map, map-append, set-get_or}}
+use Rattle.std.proofs.Common.{◌≡◌, ℕ, zero, suc, ◌<◌, Bool, true, false, not, ◌||◌, cond, eqb, List, [], ◌∷◌, ◌++◌, length, refl, sym, ◌∙◌, ap, ap₂, subst, inl}
+use Rattle.std.proofs.{Common.{inr, map, filter, slice_set, append_assoc, get_or, Option, Some, None, eq-eqb, ne_eqb}, lemmas.Bool.{cases_eq}}
+use Rattle.std.proofs.lemmas.List.{get_or-map, map-append, set-get_or}
 use Rattle.std.specs.{List.{find, list_any}, Prelude.{is_some}, Cmp.Lexicographic.{pointwise}}
 use Rattle.clause_pool.specs.{Interned.{Interned, IsIdOf, IsPool, OfPool, clause_at, clauses_at, ids_at, row_at}, Lists.{InOrder}}
 use Rattle.row_book.specs.{Facing.{face, against_in}, Uses.{row_id}, Repository.{Repository, clauses_of}}
-use Rattle.row_book.specs.Pruning.{made_dead, IdleClause, prune_clause, prune_clauses, is_forced, is_idle, others, is_dead, prune_package, step_by, with_clauses, without_clause}
-use Rattle.row_book.specs.Rounds.{IdleStep, RoundStep}
+use Rattle.row_book.specs.Pruning.{made_dead, IdleClause, prune_clause, prune_clauses, is_forced, is_idle, others, is_dead, prune_package, step_by}
+use Rattle.row_book.specs.{Pruning.{with_clauses, without_clause}, Rounds.{IdleStep, RoundStep}}
 use Rattle.listed.specs.Lists.{In, here, there}
 use Rattle.listed.proofs.Lists.{filter_cases}
 use Rattle.clause_pool.proofs.Order.{order_filter}
@@ -130,10 +131,6 @@ module _ (pool : Interned) (rows : List ℕ) (p : ℕ) (ids : List ℕ) (table :
 
   pub live_steps : is_dead R0 p ≡ false → (prune_package R0 p).steps ≡ (prune_clauses (with_ids pool rows p ids table) p (clauses_at pool ids)).steps
   live_steps e = ap (λ b. (cond b (made_dead R0 p) (prune_clauses R0 p (clauses_of R0 p))).steps) e ∙ ap₂ (λ F c. (prune_clauses F p c).steps) (sym start_is) own_clauses
-
-pub on_ok : {A E : Type 0} {P : Type 0} (r : Result A E) → P → OnOk r P
-on_ok (Ok x) p = p
-on_ok (Err e) p = tt
 
 pub interned_row : (old new : Interned) (left : List ℕ) (id : ℕ) → new.clauses ≡ old.clauses → IsIdOf new.rows left id → row_at new id ≡ clauses_at old left
 interned_row old new left id e at = ap (clauses_at new) at.holds ∙ ap (λ cs. map (λ i. get_or cs i []) left) e

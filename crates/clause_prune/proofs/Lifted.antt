@@ -2,7 +2,8 @@
 use Rattle.std.proofs.Common.{◌≡◌, ℕ, ◌<◌, Bool, true, false, ◌||◌, cond, List, [], ◌∷◌, ◌++◌, length, refl, sym, ap, subst, Option, Some, None}
 use Rattle.std.specs.{List.{list_any, find}, Prelude.{is_some}}
 use Rattle.row_book.specs.{Sets.{NumSet}, Repository.{Repository, Healthy, clauses_of}, Flattening.{packages}, Sound.{TidyRepository}}
-use Rattle.row_book.specs.Pruning.{made_dead, is_dead, is_forced, is_idle, without_clause, prune_clause, prune_clauses, prune_package, prune_over, prune, lift_idle, IdleClause, step_by, idle_steps, lift_all}
+use Rattle.row_book.specs.Pruning.{made_dead, is_dead, is_forced, is_idle, without_clause, prune_clause, prune_clauses, prune_package, prune_over, prune}
+use Rattle.row_book.specs.Pruning.{lift_idle, IdleClause, step_by, idle_steps, lift_all}
 use Rattle.listed.specs.Lists.{In, here, there}
 use Rattle.listed.proofs.Lists.{find_some}
 use Rattle.clause_prune.specs.Laws.{PruneLifts}

@@ -1,6 +1,6 @@
 -- One package after another is pruned.
-use Rattle.std.proofs.Common.{◌≡◌, ℕ, zero, suc, ◌<◌, ◌+◌, List, [], ◌∷◌, ◌++◌, length, ◌⊎◌, inl, inr, refl, sym, ◌∙◌, ap, ap₂, subst, arith, map, slice_set, append_assoc, append-nil, length-set}
-use Rattle.std.proofs.lemmas.List.{length-map, map-append, get_or-map}
+use Rattle.std.proofs.Common.{◌≡◌, ℕ, zero, suc, ◌<◌, ◌+◌, List, [], ◌∷◌, ◌++◌, length, ◌⊎◌, inl, inr, refl, sym, ◌∙◌, ap, ap₂, subst, arith, map, slice_set}
+use Rattle.std.proofs.{Common.{append_assoc, append-nil, length-set}, lemmas.List.{length-map, map-append, get_or-map}}
 use Rattle.clause_pool.specs.Interned.{Interned, IsPool, Kept, row_at}
 use Rattle.clause_pool.proofs.{Interned.{kept_same}, Lists.{In_place}, Carried.{rows_stay}}
 use Rattle.row_book.specs.{declared.book.Book.{Book}, declared.trail.Step.{Step}, declared.trail.Step.TheVariants.{Flat, Idle, Merge}, Numbers.{numbers}}

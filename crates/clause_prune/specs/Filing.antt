@@ -1,9 +1,10 @@
 -- for the bodies of this crate alone
 --
--- Which packages see to it that a clause is hit: those that are filed under one of its members with
--- a clause that lies within it. A package that does so without being a member has such a clause,
--- whose first number is a member.
-use Rattle.std.specs.{Prelude.{◌≡◌, ◌<◌, ◌%◌, ◌⊎◌, ◌&&◌, ◌||◌, ℕ, Bool, true, eqb, List, [], ◌∷◌, length, map, slice_index_or}, List.{list_any}, Global.{Vec}}
+-- Which packages, if installed, see to it that a clause is hit: its members, and packages with a
+-- clause that lies within it. The first number of such a clause is a member, if it has one. So a
+-- package is filed under the first number of its clause, and found by the members.
+use Rattle.std.specs.Prelude.{◌≡◌, ◌<◌, ◌%◌, ◌⊎◌, ◌&&◌, ◌||◌, ℕ, Bool, true, eqb, List, [], ◌∷◌}
+use Rattle.std.specs.{Prelude.{length, map, slice_index_or}, List.{list_any}, Global.{Vec}}
 use Rattle.clause_pool.specs.Interned.{Interned, clause_at}
 use Rattle.listed.specs.Lists.{In, has, is_inside}
 use Rattle.row_book.specs.{Repository.{Repository, clauses_of}, Pruning.{serves}}

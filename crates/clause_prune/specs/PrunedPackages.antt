@@ -3,7 +3,8 @@
 use Rattle.std.specs.Prelude.{ℕ, ◌<◌, List, [], length}
 use Rattle.listed.specs.Lists.{In, Ascending}
 use Rattle.row_book.specs.{Book.{listed_for, RowsFit}, Repository.{Repository}}
-use Rattle.clause_prune.specs.{Tests.{with_ids}, declared.pruned_package.PrunedPackage.{PrunedPackage}}
+use Rattle.clause_prune.specs.Tests.{with_ids}
+use Rattle.clause_prune.specs.declared.pruned_package.PrunedPackage.{PrunedPackage}
 
 -- the package has one of the rows, which fit the pool; the conflicts are of packages, and ascend
 pub record IsPrunable (p : PrunedPackage) : Type 0 where

@@ -1,6 +1,7 @@
 -- for the bodies of this crate alone
 -- The tests of pruning over a pool, a table of conflicts, and the rows as they are left.
-use Rattle.std.specs.{Prelude.{ℕ, Bool, not, ◌&&◌, ◌||◌, eqb, List, [], filter, map, slice_set}, List.{list_all, list_any}, Cmp.Lexicographic.{pointwise}}
+use Rattle.std.specs.Prelude.{ℕ, Bool, not, ◌&&◌, ◌||◌, eqb, List, [], filter, map, slice_set}
+use Rattle.std.specs.{List.{list_all, list_any}, Cmp.Lexicographic.{pointwise}}
 use Rattle.listed.specs.Lists.{is_inside, has}
 use Rattle.row_book.specs.{Pruning.{serves}, Repository.{Repository}, Facing.{against_in}}
 use Rattle.clause_pool.specs.Interned.{Interned, clauses_at, row_at}

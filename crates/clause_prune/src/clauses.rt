@@ -2,8 +2,10 @@
 ghost use Rattle.std.specs.Prelude.{◌≡◌, ◌<◌, ◌++◌, ℕ, IfOk, List, OnOk, length, map};
 ghost use Rattle.clause_pool.specs.{Interned.{clause_at, clauses_at, OfPool}, Lists.{InOrder}};
 ghost use Rattle.listed.specs.Lists.{In};
-ghost use Rattle.row_book.specs.{Repository.{Repository}, Pruning.{prune_clause, prune_clauses}, Rounds.{IdleStep}, Trail.{trail_meaning}};
-ghost use Rattle.clause_prune.specs.{Filing.{AsksServing, FiledFor}, PrunedPackages.{bare_with, left_with, IsPrunable}};
+ghost use Rattle.row_book.specs.{Repository.{Repository}, Pruning.{prune_clause, prune_clauses}};
+ghost use Rattle.row_book.specs.{Rounds.{IdleStep}, Trail.{trail_meaning}};
+ghost use Rattle.clause_prune.specs.Filing.{AsksServing, FiledFor};
+ghost use Rattle.clause_prune.specs.PrunedPackages.{bare_with, left_with, IsPrunable};
 
 use crate::filing::Filed;
 use crate::pruned_package::PrunedPackage;

@@ -4,11 +4,14 @@
 //! member is kept under its first number with the package that has it. A question about a clause
 //! then looks at the clauses that begin with one of its numbers, and at no whole row. Most of those
 //! lie within it, so a filter before the test would not pay.
-ghost use Rattle.std.specs.{Prelude.{◌≡◌, ◌<◌, ◌≤◌, ◌∷◌, ◌%◌, ◌||◌, [], ℕ, IfOk, List, OnOk, length, slice_index_or}, Bool.{OnFalse}};
+ghost use Rattle.std.specs.Prelude.{◌≡◌, ◌<◌, ◌≤◌, ◌∷◌, ◌%◌, ◌||◌, [], ℕ, IfOk, List, OnOk, length};
+ghost use Rattle.std.specs.{Prelude.{slice_index_or}, Bool.{OnFalse}};
 ghost use Rattle.clause_pool.specs.{Interned.{clause_at, clauses_at, OfPool}, Lists.{InOrder}};
 ghost use Rattle.listed.specs.Lists.{has, In, Ascending};
 ghost use Rattle.row_book.specs.Repository.{clauses_of};
-ghost use Rattle.clause_prune.specs.Filing.{entries_at, entries_in, filed_in, filed_within, tell_within, under, AreOfPool, AsksServing, FiledFor, Gains, IsFiled, Takes};
+ghost use Rattle.clause_prune.specs.Filing.{entries_at, entries_in, filed_in, filed_within};
+ghost use Rattle.clause_prune.specs.Filing.{tell_within, under, AreOfPool, AsksServing, FiledFor};
+ghost use Rattle.clause_prune.specs.Filing.{Gains, IsFiled, Takes};
 ghost use Rattle.clause_prune.specs.PrunedPackages.{bare_with, IsPrunable};
 
 use crate::pruned_package::PrunedPackage;

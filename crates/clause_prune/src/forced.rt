@@ -2,8 +2,10 @@
 ghost use Rattle.std.specs.Prelude.{◌≡◌, ◌<◌, ◌||◌, ◌++◌, ℕ, IfOk, filter, length};
 ghost use Rattle.clause_pool.specs.{Interned.{clause_at, clauses_at, OfPool}, Lists.{InOrder}};
 ghost use Rattle.listed.specs.Lists.{has, In, Ascending};
-ghost use Rattle.row_book.specs.{Repository.{clauses_of}, Uses.{IsListOf}, Pruning.{is_forced, serves}};
-ghost use Rattle.clause_prune.specs.{Filing.{filed_within, AsksServing, FiledFor}, PrunedPackages.{bare_with, IsPrunable}};
+ghost use Rattle.row_book.specs.{Repository.{clauses_of}, Uses.{IsListOf}};
+ghost use Rattle.row_book.specs.Pruning.{is_forced, serves};
+ghost use Rattle.clause_prune.specs.Filing.{filed_within, AsksServing, FiledFor};
+ghost use Rattle.clause_prune.specs.PrunedPackages.{bare_with, IsPrunable};
 
 use crate::filing::Filed;
 use crate::pruned_package::PrunedPackage;

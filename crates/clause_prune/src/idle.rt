@@ -7,7 +7,8 @@ ghost use Rattle.std.specs.{Prelude.{◌≡◌, ◌<◌, ℕ, length}, List.{fin
 ghost use Rattle.clause_pool.specs.{Interned.{clause_at, clauses_at, OfPool}, Lists.{InOrder}};
 ghost use Rattle.listed.specs.Lists.{In, Ascending};
 ghost use Rattle.row_book.specs.Pruning.{is_idle};
-ghost use Rattle.clause_prune.specs.{PrunedPackages.{left_with, IsPrunable}, Tests.{excludes_in, harmless_in, includes_in, hit_anyway_in}};
+ghost use Rattle.clause_prune.specs.PrunedPackages.{left_with, IsPrunable};
+ghost use Rattle.clause_prune.specs.Tests.{excludes_in, harmless_in, includes_in, hit_anyway_in};
 
 use crate::pruned_package::PrunedPackage;
 use clause_pool::{ClauseId, has_within};

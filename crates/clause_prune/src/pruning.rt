@@ -2,8 +2,11 @@
 ghost use Rattle.std.specs.Prelude.{◌≡◌, ◌<◌, ◌++◌, ◌∷◌, [], ℕ, IfOk, OnOk, length, map};
 ghost use Rattle.clause_pool.specs.Interned.{row_at, Kept, IsPool};
 ghost use Rattle.listed.specs.Lists.{In, Ascending};
-ghost use Rattle.row_book.specs.{Book.{listed_for, repository_of, RowsFit, RowsTidy, Sound}, Repository.{Repository}, Keeping.{KeepsSets}};
-ghost use Rattle.row_book.specs.{Sound.{TidyRepository}, Pruning.{idle_steps, prune_package, prune, with_clauses}, Rounds.{IdleStep}, Trail.{trail_meaning}};
+ghost use Rattle.row_book.specs.Book.{listed_for, repository_of, RowsFit, RowsTidy, Sound};
+ghost use Rattle.row_book.specs.{Repository.{Repository}, Keeping.{KeepsSets}};
+ghost use Rattle.row_book.specs.Sound.{TidyRepository};
+ghost use Rattle.row_book.specs.Pruning.{idle_steps, prune_package, prune, with_clauses};
+ghost use Rattle.row_book.specs.{Rounds.{IdleStep}, Trail.{trail_meaning}};
 ghost use Rattle.clause_prune.specs.Tests.{repository_in};
 
 use crate::pruned_package::PrunedPackage;

@@ -1,5 +1,6 @@
 //! The clauses of a package that are left while one after another is dropped.
-ghost use Rattle.std.specs.Prelude.{◌≡◌, ◌<◌, ◌≤◌, ◌+◌, ℕ, IfOk, cond, drop, length, slice_index_or};
+ghost use Rattle.std.specs.Prelude.{◌≡◌, ◌<◌, ◌≤◌, ◌+◌, ℕ, IfOk, cond, drop, length};
+ghost use Rattle.std.specs.Prelude.{slice_index_or};
 ghost use Rattle.clause_prune.specs.Tests.{ids_without};
 
 use clause_pool::ClauseId;

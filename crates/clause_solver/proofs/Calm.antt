@@ -1,8 +1,9 @@
 -- Levels at which nothing clashes.
-use Rattle.std.proofs.Common.{◌≡◌, ℕ, ◌<◌, ◌≤◌, Bool, true, false, not, ◌||◌, List, [], ◌∷◌, ◌++◌, ◌⊎◌, length, get_or, take, refl, ap, sym, ◌∙◌, arith, inl, inr, Some, None, Option, subst, append_assoc}
+use Rattle.std.proofs.Common.{◌≡◌, ℕ, ◌<◌, ◌≤◌, Bool, true, false, not, ◌||◌, List, [], ◌∷◌, ◌++◌, ◌⊎◌, length, get_or, take, refl, ap, sym, ◌∙◌, arith, inl}
+use Rattle.std.proofs.Common.{inr, Some, None, Option, subst, append_assoc}
 use Rattle.std.proofs.{lemmas.Bool.{and_parts, and_from, or_right, or_cases, not-true, false_from_ne_true, cases_lt}, Math.ListN.{get_or-eq_default}}
-use Rattle.std.proofs.lemmas.List.Elements.{All-contains, All-nil, All-cons, All-append, Contains-append_left, Contains-append_right, Contains-push, Contains-get_or}
-use Rattle.std.proofs.{lemmas.List.Folds.{Any-from_list_any, list_any-from_Any}, lemmas.List.{take_at}}
+use Rattle.std.proofs.lemmas.List.Elements.{All-contains, All-nil, All-cons, All-append, Contains-append_left, Contains-append_right, Contains-push}
+use Rattle.std.proofs.{lemmas.List.Elements.{Contains-get_or}, lemmas.List.Folds.{Any-from_list_any, list_any-from_Any}, lemmas.List.{take_at}}
 use Rattle.std.proofs.lemmas.List.FromFn.{get_or-map-range_with_len, length-map-range_with_len}
 use Rattle.std.specs.{Prelude.{All, Contains}, List.{find}}
 use Rattle.listed.specs.Lists.{In}

@@ -1,6 +1,6 @@
 -- Looking at all that a mark contradicts, and at all marks.
-use Rattle.std.proofs.Common.{◌≡◌, ℕ, zero, suc, ◌+◌, ◌<◌, ◌≤◌, Bool, true, false, not, List, [], ◌∷◌, ◌++◌, ◌⊎◌, length, get_or, drop, ap, sym, ◌∙◌, arith, inl, inr, subst}
-use Rattle.std.proofs.{lemmas.Bool.{false_from_ne_true}, lemmas.List.{get_or_default}}
+use Rattle.std.proofs.Common.{◌≡◌, ℕ, zero, suc, ◌+◌, ◌<◌, ◌≤◌, Bool, true, false, not, List, [], ◌∷◌, ◌++◌, ◌⊎◌, length, get_or, drop, ap, sym, ◌∙◌, arith}
+use Rattle.std.proofs.{Common.{inl, inr, subst}, lemmas.Bool.{false_from_ne_true}, lemmas.List.{get_or_default}}
 use Rattle.std.proofs.lemmas.List.Elements.{All-contains, Contains-append_left, Contains-append_right, Contains-append_cases, Contains-get_or}
 use Rattle.std.proofs.{Math.Seq.{drop-cons}, Math.Numerals.{add-one}}
 use Rattle.std.specs.Prelude.{All, Contains, map}

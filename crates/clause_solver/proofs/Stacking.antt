@@ -1,5 +1,5 @@
-use Rattle.std.proofs.Common.{◌≡◌, ℕ, ◌+◌, ◌*◌, ◌-◌, ◌<◌, ◌≤◌, Bool, true, false, List, [], ◌∷◌, ◌++◌, refl, ap, sym, ◌∙◌, arith, Some, None, subst, append_assoc, zero-add}
-use Rattle.std.proofs.lemmas.List.Elements.{All-contains, Contains-append_left, Contains-get_or}
+use Rattle.std.proofs.Common.{◌≡◌, ℕ, ◌+◌, ◌*◌, ◌-◌, ◌<◌, ◌≤◌, Bool, true, false, List, [], ◌∷◌, ◌++◌, refl, ap, sym, ◌∙◌, arith, Some, None, subst}
+use Rattle.std.proofs.{Common.{append_assoc, zero-add}, lemmas.List.Elements.{All-contains, Contains-append_left, Contains-get_or}}
 use Rattle.std.specs.Prelude.{map, All, get_or}
 use Rattle.search_terms.specs.{declared.literals.Literal.{Literal}, Closure.{literal, negation, Clashes}}
 use Rattle.search_terms.specs.{Tree.{Tree, IsTree, IsFoundLeaf, IsSplit, found_of, failed_leaves, log_of}, Marks.{classes_left}, Tree.Tree.{failed_leaf, split}}

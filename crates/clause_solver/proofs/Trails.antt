@@ -1,6 +1,6 @@
 -- Marks, and taking them back.
-use Rattle.std.proofs.Common.{◌≡◌, ℕ, zero, suc, ◌+◌, ◌<◌, ◌≤◌, Bool, true, false, not, ◌||◌, cond, List, [], ◌∷◌, ◌++◌, ◌⊎◌, length, get_or, set, take, refl, ap, sym, ◌∙◌, arith, inl, inr, Some, subst}
-use Rattle.std.proofs.lemmas.Bool.{cases_eq, or_cases, or_left, or_right}
+use Rattle.std.proofs.Common.{◌≡◌, ℕ, zero, suc, ◌+◌, ◌<◌, ◌≤◌, Bool, true, false, not, ◌||◌, cond, List, [], ◌∷◌, ◌++◌, ◌⊎◌, length, get_or, set, take, refl}
+use Rattle.std.proofs.{Common.{ap, sym, ◌∙◌, arith, inl, inr, Some, subst}, lemmas.Bool.{cases_eq, or_cases, or_left, or_right}}
 use Rattle.std.proofs.lemmas.List.{length-set, length_push, get_or-set_same, get_or-set_other, take-append-le, take_at, take-take}
 use Rattle.std.proofs.{lemmas.List.Folds.{list_any-append}, lemmas.List.Sums.{sum_by-set}}
 use Rattle.std.proofs.{lemmas.List.Elements.{All-contains, All-push, Contains-append_left, Contains-get_or, Contains-push}, lemmas.Option.{slice_get_within}}

@@ -1,9 +1,11 @@
 -- What the propagation rests on: the sentences of goals, clauses and conflicts, and the table of
 -- their uses.
-use Rattle.std.specs.Prelude.{◌≡◌, ℕ, ◌*◌, ◌<◌, Bool, false, List, [], ◌++◌, All, length, slice_index_or, Contains, ◌⊎◌}
+use Rattle.std.specs.Prelude.{◌≡◌, ℕ, ◌*◌, ◌<◌, Bool, false, List, [], ◌++◌, All, length}
+use Rattle.std.specs.Prelude.{slice_index_or, Contains, ◌⊎◌}
 use Rattle.listed.specs.Lists.{In}
 use Rattle.row_book.specs.Book.{listed_for}
-use Rattle.search_terms.specs.{declared.literals.Literal.{Literal}, Closure.{negation, InRange}, Marks.{flag_place}, Form.{owned_sentences, conflict_sentence}}
+use Rattle.search_terms.specs.{declared.literals.Literal.{Literal}, Closure.{negation, InRange}}
+use Rattle.search_terms.specs.{Marks.{flag_place}, Form.{owned_sentences, conflict_sentence}}
 use Rattle.clause_solver.specs.{declared.formula.Formula.{Formula}, declared.table.Use.{Use}}
 
 -- goals, then clauses, then conflicts

@@ -1,7 +1,8 @@
 -- The levels of a search: for each front of the decisions the trail up to its level is its closure,
 -- which does not clash.
 use Rattle.std.specs.Prelude.{◌≡◌, ℕ, ◌≤◌, Bool, true, false, List, [], ◌∷◌, ◌++◌, length, take}
-use Rattle.search_terms.specs.{declared.literals.Literal.{Literal}, Closure.{IsClosure, Clashes}, Marks.{IsConsistent}, Tree.{is_undecided}}
+use Rattle.search_terms.specs.{declared.literals.Literal.{Literal}, Closure.{IsClosure, Clashes}}
+use Rattle.search_terms.specs.{Marks.{IsConsistent}, Tree.{is_undecided}}
 use Rattle.clause_solver.specs.Marking.{set_of_trail}
 
 -- the trail is the closure of the decisions, and no class has both signs

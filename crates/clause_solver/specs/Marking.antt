@@ -1,6 +1,8 @@
 -- Marked literals, in the order in which they were marked.
-use Rattle.std.specs.{Prelude.{◌≡◌, ℕ, ◌+◌, ◌*◌, ◌<◌, Bool, false, not, List, All, length, take, slice_get, Some, count_by}, List.{list_any}}
-use Rattle.search_terms.specs.{declared.literals.Literal.{Literal}, Closure.{is_same}, Marks.{is_marked}}
+use Rattle.std.specs.Prelude.{◌≡◌, ℕ, ◌+◌, ◌*◌, ◌<◌, Bool, false, not, List, All, length, take}
+use Rattle.std.specs.{Prelude.{slice_get, Some, count_by}, List.{list_any}}
+use Rattle.search_terms.specs.{declared.literals.Literal.{Literal}, Closure.{is_same}}
+use Rattle.search_terms.specs.Marks.{is_marked}
 
 -- the set of the literals of a list
 abbrev pub set_of_trail : List Literal → Literal → Bool

@@ -1,9 +1,13 @@
 -- for the bodies of this crate alone
 -- What a node is whose closure does not clash.
-use Rattle.std.specs.Prelude.{◌≡◌, ℕ, ◌<◌, ◌≤◌, Bool, true, false, List, [], ◌∷◌, ◌++◌, All, Contains, slice_index_or, ◌⊎◌}
-use Rattle.search_terms.specs.{declared.literals.Literal.{Literal}, Closure.{literal}, Tree.{IsFoundLeaf, IsSplit, is_open_need, is_undecided}}
+use Rattle.std.specs.Prelude.{◌≡◌, ℕ, ◌<◌, ◌≤◌, Bool, true, false, List, [], ◌∷◌, ◌++◌, All}
+use Rattle.std.specs.Prelude.{Contains, slice_index_or, ◌⊎◌}
+use Rattle.search_terms.specs.{declared.literals.Literal.{Literal}, Closure.{literal}}
+use Rattle.search_terms.specs.Tree.{IsFoundLeaf, IsSplit, is_open_need, is_undecided}
 use Rattle.search_terms.specs.Marks.{classes_left, true_classes}
-use Rattle.clause_solver.specs.{Marking.{set_of_trail}, declared.nodes.Node.{Node}, declared.table.Use.{Use}, declared.nodes.Node.TheVariants.{Met, Splits}}
+use Rattle.clause_solver.specs.{Marking.{set_of_trail}, declared.nodes.Node.{Node}}
+use Rattle.clause_solver.specs.declared.table.Use.{Use}
+use Rattle.clause_solver.specs.declared.nodes.Node.TheVariants.{Met, Splits}
 
 -- The trail leaves no need open, and so is that of a found leaf. Or the node splits on a class, and
 -- each branch leaves fewer classes.

@@ -1,9 +1,11 @@
 -- The outcome that a tree gives within a budget, and what an outcome says by itself.
 use Rattle.std.specs.Prelude.{◌≡◌, ℕ, ◌+◌, ◌<◌, ◌≤◌, List, [], length, Some, None}
 use Rattle.row_book.specs.{Repository.{Repository}, Flags.{flag}}
-use Rattle.search_terms.specs.{Closure.{InRange}, Derives.{Derives}, Form.{form}, Laws.{Solves, HasNoSolution}}
+use Rattle.search_terms.specs.{Closure.{InRange}, Derives.{Derives}, Form.{form}}
+use Rattle.search_terms.specs.Laws.{Solves, HasNoSolution}
 use Rattle.search_terms.specs.Tree.{Tree, IsTree, found_of, failed_leaves, log_of}
-use Rattle.clause_solver.specs.{declared.outcomes.Outcome.{Outcome}, declared.outcomes.Outcome.TheVariants.{Found, Refuted, Spent}}
+use Rattle.clause_solver.specs.declared.outcomes.Outcome.{Outcome}
+use Rattle.clause_solver.specs.declared.outcomes.Outcome.TheVariants.{Found, Refuted, Spent}
 
 -- the budget of a search, in failed leaves: from one to a million
 abbrev pub IsBudget : ℕ → Type 0

@@ -2,7 +2,9 @@
 -- Propagation: sentences that are met, that wait for a literal to be looked at, or that are
 -- refuted.
 use Rattle.std.specs.Prelude.{◌≡◌, ℕ, Bool, true, List, ◌++◌, ◌⊎◌, drop, Contains}
-use Rattle.search_terms.specs.{declared.literals.Literal.{Literal}, Closure.{negation, is_refuted, IsClosedUnder, IsUnitClosed}, Marks.{IsWithin, IsConsistent}}
+use Rattle.search_terms.specs.declared.literals.Literal.{Literal}
+use Rattle.search_terms.specs.Closure.{negation, is_refuted, IsClosedUnder, IsUnitClosed}
+use Rattle.search_terms.specs.Marks.{IsWithin, IsConsistent}
 use Rattle.clause_solver.specs.Marking.{set_of_trail}
 
 -- a sentence of the formula is refuted

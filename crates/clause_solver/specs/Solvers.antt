@@ -2,7 +2,8 @@
 use Rattle.std.specs.Prelude.{◌≡◌, ℕ, List, [], length}
 use Rattle.listed.specs.Lists.{In}
 use Rattle.row_book.specs.{Book.{listed_for}, Repository.{Repository}}
-use Rattle.clause_solver.specs.{declared.solver.Solver.{Solver}, Engine.{whole_form, IsEngine}, Levels.{IsAt}}
+use Rattle.clause_solver.specs.{declared.solver.Solver.{Solver}, Engine.{whole_form, IsEngine}}
+use Rattle.clause_solver.specs.Levels.{IsAt}
 use Rattle.search_terms.specs.Form.{owned_sentences, clause_sentence}
 
 -- nothing conflicts with itself

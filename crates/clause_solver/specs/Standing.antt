@@ -1,7 +1,8 @@
 -- for the bodies of this crate alone
 -- How far a walk of the tree has come that goes without recursion.
 use Rattle.std.specs.Prelude.{◌≡◌, ℕ, ◌+◌, Bool, true, false, List, [], ◌∷◌, ◌++◌, None, map}
-use Rattle.search_terms.specs.{declared.literals.Literal.{Literal}, Closure.{literal}, Tree.{Tree, IsTree, found_of, failed_leaves, log_of}}
+use Rattle.search_terms.specs.{declared.literals.Literal.{Literal}, Closure.{literal}}
+use Rattle.search_terms.specs.Tree.{Tree, IsTree, found_of, failed_leaves, log_of}
 use Rattle.search_terms.specs.Tree.Tree.{failed_leaf, found_leaf, split}
 use Rattle.clause_solver.specs.Verdicts.{IsKept}
 

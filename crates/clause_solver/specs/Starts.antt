@@ -1,8 +1,11 @@
 -- for the bodies of this crate alone
 -- Starts of the search for the first open need.
-use Rattle.std.specs.Prelude.{◌≡◌, ℕ, ◌<◌, ◌≤◌, Bool, true, false, List, [], ◌∷◌, ◌++◌, All, Contains, length, take, slice_index_or, ◌⊎◌}
-use Rattle.search_terms.specs.{declared.literals.Literal.{Literal}, Marks.{flag_place}, Tree.{is_open_need}}
-use Rattle.clause_solver.specs.{Marking.{set_of_trail}, declared.nodes.Start.{Start}, declared.table.Use.{Use}}
+use Rattle.std.specs.Prelude.{◌≡◌, ℕ, ◌<◌, ◌≤◌, Bool, true, false, List, [], ◌∷◌, ◌++◌, All}
+use Rattle.std.specs.Prelude.{Contains, length, take, slice_index_or, ◌⊎◌}
+use Rattle.search_terms.specs.{declared.literals.Literal.{Literal}, Marks.{flag_place}}
+use Rattle.search_terms.specs.Tree.{is_open_need}
+use Rattle.clause_solver.specs.{Marking.{set_of_trail}, declared.nodes.Start.{Start}}
+use Rattle.clause_solver.specs.declared.table.Use.{Use}
 
 -- the trail leaves no sentence before the place open
 abbrev pub NoneBefore : List (List Literal) → List Literal → ℕ → Type 0

@@ -1,8 +1,11 @@
 -- The verdict that a tree gives within a budget.
 use Rattle.std.specs.Prelude.{◌≡◌, ℕ, ◌<◌, ◌≤◌, Bool, true, List, [], length, None, Some, IsSome}
 use Rattle.row_book.specs.Repository.{Repository}
-use Rattle.search_terms.specs.{Form.{form}, declared.literals.Literal.{Literal}, Tree.{Tree, IsTree, found_of, failed_leaves, log_of}, Marks.{true_classes}}
-use Rattle.clause_solver.specs.{Marking.{set_of_trail}, declared.outcomes.Verdict.{Verdict}, declared.outcomes.Verdict.TheVariants.{Yes, No, Spent}}
+use Rattle.search_terms.specs.{Form.{form}, declared.literals.Literal.{Literal}}
+use Rattle.search_terms.specs.Tree.{Tree, IsTree, found_of, failed_leaves, log_of}
+use Rattle.search_terms.specs.Marks.{true_classes}
+use Rattle.clause_solver.specs.{Marking.{set_of_trail}, declared.outcomes.Verdict.{Verdict}}
+use Rattle.clause_solver.specs.declared.outcomes.Verdict.TheVariants.{Yes, No, Spent}
 
 -- spent exactly if the failed leaves are more than the budget; else whether the tree finds
 -- something

@@ -52,7 +52,8 @@ struct Run {
 impl<'a> BookSolver<'a> {
     ghost use Rattle.std.specs.Prelude.{◌≡◌, IfOk, length};
     ghost use Rattle.row_book.specs.{Lent.{repository_in}, Needs.{NeedsFit}};
-    ghost use Rattle.clause_solver.specs.{Outcomes.{IsBudget, IsCertified, IsSearchOutcome}, Verdicts.{EndsSearch, IsSearchVerdict}};
+    ghost use Rattle.clause_solver.specs.Outcomes.{IsBudget, IsCertified, IsSearchOutcome};
+    ghost use Rattle.clause_solver.specs.Verdicts.{EndsSearch, IsSearchVerdict};
 
     /// A book with a solver of it.
     pub fn new(alloc: Global, book: &LentBook<'a>) -> Result<BookSolver<'a>, AllocError>

@@ -1,7 +1,10 @@
 //! A decision, with what follows from it.
-ghost use Rattle.std.specs.{Prelude.{◌≡◌, ◌<◌, ◌≤◌, ◌∷◌, ◌++◌, [], true, false, List, OnOk, IfOk, length, take}, Bool.{OnTrue, OnFalse}};
-ghost use Rattle.search_terms.specs.{declared.literals.Literal.{Literal}, Closure.{Clashes}, Tree.{is_undecided}};
-ghost use Rattle.clause_solver.specs.{Marking.{set_of_trail}, Engine.{sentences_in, IsFormula}, Levels.{CalmAt}, Nodes.{ArePositive}};
+ghost use Rattle.std.specs.Prelude.{◌≡◌, ◌<◌, ◌≤◌, ◌∷◌, ◌++◌, [], true, false, List, OnOk, IfOk};
+ghost use Rattle.std.specs.{Prelude.{length, take}, Bool.{OnTrue, OnFalse}};
+ghost use Rattle.search_terms.specs.{declared.literals.Literal.{Literal}, Closure.{Clashes}};
+ghost use Rattle.search_terms.specs.Tree.{is_undecided};
+ghost use Rattle.clause_solver.specs.{Marking.{set_of_trail}, Engine.{sentences_in, IsFormula}};
+ghost use Rattle.clause_solver.specs.{Levels.{CalmAt}, Nodes.{ArePositive}};
 
 use crate::formula::Formula;
 use crate::propagation::propagate;

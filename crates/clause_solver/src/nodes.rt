@@ -1,9 +1,14 @@
 //! What a node of the tree is.
-ghost use Rattle.std.specs.{Prelude.{◌≡◌, ◌<◌, ◌≤◌, ◌++◌, [], ℕ, true, false, List, All, Contains, IfOk, length, slice_index_or}, Option.{option_copied}};
+ghost use Rattle.std.specs.Prelude.{◌≡◌, ◌<◌, ◌≤◌, ◌++◌, [], ℕ, true, false, List, All, Contains};
+ghost use Rattle.std.specs.{Prelude.{IfOk, length, slice_index_or}, Option.{option_copied}};
 ghost use Rattle.std.specs.List.{find};
-ghost use Rattle.search_terms.specs.{declared.literals.Literal.{Literal}, Tree.{is_open_need}, Marks.{true_classes}};
-ghost use Rattle.clause_solver.specs.{Marking.{set_of_trail}, Engine.{sentences_in, IsFormula, IsTable, IsUse}, Levels.{CalmAt}};
-ghost use Rattle.clause_solver.specs.Nodes.{AreFull, HaveNegative, IsLeastOpen, IsNode, IsUndecidedAt};
+ghost use Rattle.search_terms.specs.{declared.literals.Literal.{Literal}, Tree.{is_open_need}};
+ghost use Rattle.search_terms.specs.Marks.{true_classes};
+ghost use Rattle.clause_solver.specs.Marking.{set_of_trail};
+ghost use Rattle.clause_solver.specs.Engine.{sentences_in, IsFormula, IsTable, IsUse};
+ghost use Rattle.clause_solver.specs.Levels.{CalmAt};
+ghost use Rattle.clause_solver.specs.Nodes.{AreFull, HaveNegative, IsLeastOpen, IsNode};
+ghost use Rattle.clause_solver.specs.Nodes.{IsUndecidedAt};
 ghost use Rattle.clause_solver.specs.Starts.{IsFirstOpen, IsNextOpen, IsStart, IsSwept, NoneBefore};
 
 use crate::formula::Formula;

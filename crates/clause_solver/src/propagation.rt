@@ -1,7 +1,11 @@
 //! Unit propagation, up to the first contradiction.
-ghost use Rattle.std.specs.{Prelude.{◌≡◌, ◌<◌, ◌≤◌, true, false, List, All, Contains, OnOk, IfOk, length}, Bool.{OnTrue, OnFalse}};
-ghost use Rattle.search_terms.specs.{declared.literals.Literal.{Literal}, Closure.{negation, InRange, IsUnitClosed}, Marks.{IsConsistent}};
-ghost use Rattle.clause_solver.specs.{Marking.{set_of_trail}, Running.{HasRefuted, Runs, Waits}, Engine.{sentences_in, IsFormula}, Nodes.{ArePositive}};
+ghost use Rattle.std.specs.Prelude.{◌≡◌, ◌<◌, ◌≤◌, true, false, List, All, Contains, OnOk, IfOk};
+ghost use Rattle.std.specs.{Prelude.{length}, Bool.{OnTrue, OnFalse}};
+ghost use Rattle.search_terms.specs.declared.literals.Literal.{Literal};
+ghost use Rattle.search_terms.specs.Closure.{negation, InRange, IsUnitClosed};
+ghost use Rattle.search_terms.specs.Marks.{IsConsistent};
+ghost use Rattle.clause_solver.specs.{Marking.{set_of_trail}, Running.{HasRefuted, Runs, Waits}};
+ghost use Rattle.clause_solver.specs.{Engine.{sentences_in, IsFormula}, Nodes.{ArePositive}};
 
 use crate::formula::Formula;
 use crate::steps::{propagate_all, propagate_conflicts, propagate_row};

@@ -1,7 +1,8 @@
 //! What a book says without goals: its sentences with their table, propagated once for all
 //! searches.
 ghost use Rattle.std.specs.Prelude.{◌≡◌, [], IfOk, OnOk};
-ghost use Rattle.clause_solver.specs.{Engine.{whole_form, sentences_in, IsEngine, IsFormula}, Levels.{CalmAt, IsAt}, Nodes.{ArePositive, HaveNegative}};
+ghost use Rattle.clause_solver.specs.Engine.{whole_form, sentences_in, IsEngine, IsFormula};
+ghost use Rattle.clause_solver.specs.{Levels.{CalmAt, IsAt}, Nodes.{ArePositive, HaveNegative}};
 ghost use Rattle.clause_solver.specs.Solvers.{AreApart};
 
 use crate::formula::Formula;

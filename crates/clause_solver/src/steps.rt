@@ -1,7 +1,10 @@
 //! Unit steps of sentences. Each call returns whether there is a contradiction.
-ghost use Rattle.std.specs.{Prelude.{◌≡◌, ◌<◌, ◌∷◌, [], true, false, All, OnOk, IfOk, length, map, slice_index_or}, Bool.{OnTrue, OnFalse}};
-ghost use Rattle.search_terms.specs.{Closure.{literal, InRange, IsClosedUnder, is_refuted}, Marks.{IsConsistent}, Form.{conflict_sentence}};
-ghost use Rattle.clause_solver.specs.{Marking.{set_of_trail}, Engine.{IsUse}, Running.{HasRefuted, Runs, Waits}};
+ghost use Rattle.std.specs.Prelude.{◌≡◌, ◌<◌, ◌∷◌, [], true, false, All, OnOk, IfOk, length, map};
+ghost use Rattle.std.specs.{Prelude.{slice_index_or}, Bool.{OnTrue, OnFalse}};
+ghost use Rattle.search_terms.specs.Closure.{literal, InRange, IsClosedUnder, is_refuted};
+ghost use Rattle.search_terms.specs.{Marks.{IsConsistent}, Form.{conflict_sentence}};
+ghost use Rattle.clause_solver.specs.{Marking.{set_of_trail}, Engine.{IsUse}};
+ghost use Rattle.clause_solver.specs.Running.{HasRefuted, Runs, Waits};
 
 use crate::reading::{first_free, has_two_free, is_forced};
 use crate::table::Use;

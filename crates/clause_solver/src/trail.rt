@@ -1,5 +1,6 @@
 //! The trail: the literals that are true so far, which can be taken back.
-ghost use Rattle.std.specs.Prelude.{◌≡◌, ◌<◌, ◌≤◌, ◌+◌, ◌*◌, ◌∷◌, ◌++◌, [], length, take, false, IfOk, OnOk, OnErr, All};
+ghost use Rattle.std.specs.Prelude.{◌≡◌, ◌<◌, ◌≤◌, ◌+◌, ◌*◌, ◌∷◌, ◌++◌, [], length, take, false};
+ghost use Rattle.std.specs.Prelude.{IfOk, OnOk, OnErr, All};
 ghost use Rattle.search_terms.specs.{declared.literals.Literal.{Literal}, Marks.{flag_place}};
 ghost use Rattle.clause_solver.specs.Marking.{set_of_trail, EachOnce};
 

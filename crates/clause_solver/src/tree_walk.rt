@@ -3,10 +3,15 @@
 //! Depth first, true before false, and nothing is learnt: the tree is specified, and its failed
 //! leaves are the budget. So no other order may be taken, and a backtrack goes only to the last
 //! decision.
-ghost use Rattle.std.specs.Prelude.{◌≡◌, ◌+◌, ◌-◌, ◌<◌, ◌≤◌, ◌^◌, ◌∷◌, ◌++◌, [], ℕ, true, false, List, All, OnOk, IfOk, IfSome, IfNone, length, map};
-ghost use Rattle.search_terms.specs.{declared.literals.Literal.{Literal}, Closure.{negation}, Tree.{Tree, IsTree}};
-ghost use Rattle.clause_solver.specs.{Engine.{sentences_in, IsFormula}, Levels.{IsFallen, IsAt, IsToAssume}, Nodes.{AreFull, ArePositive, HaveNegative}};
-ghost use Rattle.clause_solver.specs.{Standing.{WalksIn, WalksPast}, Starts.{AreStarts, IsStarted}, Verdicts.{Ends}};
+ghost use Rattle.std.specs.Prelude.{◌≡◌, ◌+◌, ◌-◌, ◌<◌, ◌≤◌, ◌^◌, ◌∷◌, ◌++◌, [], ℕ, true, false};
+ghost use Rattle.std.specs.Prelude.{List, All, OnOk, IfOk, IfSome, IfNone, length, map};
+ghost use Rattle.search_terms.specs.{declared.literals.Literal.{Literal}, Closure.{negation}};
+ghost use Rattle.search_terms.specs.Tree.{Tree, IsTree};
+ghost use Rattle.clause_solver.specs.Engine.{sentences_in, IsFormula};
+ghost use Rattle.clause_solver.specs.Levels.{IsFallen, IsAt, IsToAssume};
+ghost use Rattle.clause_solver.specs.Nodes.{AreFull, ArePositive, HaveNegative};
+ghost use Rattle.clause_solver.specs.{Standing.{WalksIn, WalksPast}, Starts.{AreStarts, IsStarted}};
+ghost use Rattle.clause_solver.specs.Verdicts.{Ends};
 
 use crate::decision::decide;
 use crate::formula::Formula;

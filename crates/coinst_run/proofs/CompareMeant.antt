@@ -3,14 +3,14 @@ use Rattle.std.proofs.Common.{◌≡◌, Bool, true, false, not, List, [], ◌�
 use Rattle.std.specs.{Prelude.{if◌then◌else◌, filter, length}, List.{list_any}}
 use Rattle.suite_compare.specs.{Asking.{verdict_in}, declared.report.ReportLine.{ReportLine}}
 use Rattle.suite_compare.specs.{declared.report.ReportLine.TheVariants.{Broken1, Broken2, Open1, Open2}, Refusals.{home_in, packages_in}}
-use Rattle.suite_compare.specs.{Indexes.{Judged, SearchedIndex, searched}, Listing.{HasNoOpenLine, ListsExactly, is_broken}}
+use Rattle.suite_compare.specs.{Indexes.{Judged, SearchedIndex, searched}, Listing.{HasNoOpenLine, ListsExactly, is_broken, says_open}}
 use Rattle.suite_compare.proofs.{Deciding.{verdict_is_judged}, Exact.{report_lists_exactly}, Lost.{empty_list_loses_nothing, without_open_lines}}
 use Rattle.coinst_run.proofs.{Prints.{exact_lists_print_exactly, lines_are_cut}, AnswerMeant.{told_means}, Given.{at_end, kernel_read}}
 use Rattle.listed.specs.Lists.{In}
 use Rattle.listed.proofs.Lists.{In_none, filter_from}
 use Rattle.coinst_run.specs.declared.answer.ReportVerdict.TheVariants.{Done, Negative, Undecided}
 use Rattle.coinst_run.specs.{Compare.{broken_lines, compare_answer, lines_answer, newer_course}, CompareMeaning.{CompareIsMeant, CompareMeans}}
-use Rattle.coinst_run.specs.{CompareText.{comparison_verdict, is_open_line}, Index.{index_in}}
+use Rattle.coinst_run.specs.{CompareText.{comparison_verdict}, Index.{index_in}}
 
 -- nothing is told where the run is done
 open_not_done : (b : Bool) → (if b then Negative else (if true then Undecided else Done)) ≡ Done → ⊥
@@ -25,20 +25,20 @@ done_is_empty (Open1 name ∷ rest) e = absurd (open_not_done (list_any is_broke
 done_is_empty (Open2 first second ∷ rest) e = absurd (open_not_done (list_any is_broken rest) e)
 
 -- where no line is counted as open, none is open
-none_open : (lines : List ReportLine) → length (filter is_open_line lines) ≡ 0 → HasNoOpenLine lines
+none_open : (lines : List ReportLine) → length (filter says_open lines) ≡ 0 → HasNoOpenLine lines
 none_open lines zero =
-    λ line i. go line (is_broken line) refl (none_among lines zero line i)
+    λ line i. go line (says_open line) refl (none_among lines zero line i)
   where
-    go : (line : ReportLine) (b : Bool) → is_broken line ≡ b → (is_open_line line ≡ true → ⊥) → is_broken line ≡ true
-    go line true e none = e
-    go line false e none = absurd (none (ap not e))
+    go : (line : ReportLine) (b : Bool) → says_open line ≡ b → (says_open line ≡ true → ⊥) → says_open line ≡ false
+    go line true e none = absurd (none e)
+    go line false e none = e
 
     no_items : (xs : List ReportLine) → length xs ≡ 0 → xs ≡ []
     no_items [] e = refl
     no_items (x ∷ xs) e = absurd (let k : ⊥ = cc in k)
 
-    none_among : (lines : List ReportLine) → length (filter is_open_line lines) ≡ 0 → (line : ReportLine) → In line lines → is_open_line line ≡ true → ⊥
-    none_among lines zero line i up = In_none (subst (In line) (no_items (filter is_open_line lines) zero) (filter_from is_open_line lines line i up))
+    none_among : (lines : List ReportLine) → length (filter says_open lines) ≡ 0 → (line : ReportLine) → In line lines → says_open line ≡ true → ⊥
+    none_among lines zero line i up = In_none (subst (In line) (no_items (filter says_open lines) zero) (filter_from says_open lines line i up))
 
 pub compare_is_meant : CompareIsMeant
 unfolding broken_lines

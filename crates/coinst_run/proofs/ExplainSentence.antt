@@ -1,7 +1,7 @@
 -- The sentence of `explain`, from what its report means.
 use Rattle.suite_compare.specs.Indexes.{SearchedIndex}
-use Rattle.std.proofs.Common.{◌≡◌, ℕ, ◌+◌, ◌-◌, ◌<◌, ◌≤◌, Bool, true, cond, List, [], ◌∷◌, ◌++◌, Option, Some, None, length, map, refl, sym, ap, ap₂, subst, ◌∙◌, arith}
-use Rattle.std.proofs.lemmas.List.{length-map}
+use Rattle.std.proofs.Common.{◌≡◌, ℕ, ◌+◌, ◌-◌, ◌<◌, ◌≤◌, Bool, true, cond, List, [], ◌∷◌, ◌++◌, Option, Some, None, length, map, refl, sym, ap, ap₂, subst}
+use Rattle.std.proofs.{Common.{◌∙◌, arith}, lemmas.List.{length-map}}
 use Rattle.std.specs.{Prelude.{codes, option_map, unwrap_or, IfSome}, Fmt.{decimal}, List.{flat_map}, Option.{option_map_or}}
 use Rattle.byte_flow.specs.History.{OpenedFile}
 use Rattle.coinst_words.specs.{Jobs.{job_of}, Usage.{Text}, declared.job.Job.TheVariants.{Explain}}
@@ -18,8 +18,8 @@ use Rattle.listed.specs.Lists.{In, here, there}
 use Rattle.relation_fields.specs.declared.packages.PackageFacts.{PackageFacts}
 use Rattle.repo_model.specs.{FirstFault.{first_fault}, Goals.{any_version, goal_of}, Repository.{suite_repository}, Stanzas.{stanza_at}}
 use Rattle.repo_model.specs.declared.goals.Goal.{Goal}
-use Rattle.claims.specs.Explained.{AreConflictsFor, AreKept, AreReasonsFor, CouldMeet, IsCoreOfGoals, IsTooLongWith, PrintedGoal, as_clashes, printed_clashes, printed_core}
-use Rattle.claims.specs.{Goals.{CanMeet}, Sentences.{ExplainIsTrue, IsFaithfulExplanation}, Settled.{IsPastBudget}}
+use Rattle.claims.specs.Explained.{AreConflictsFor, AreKept, AreReasonsFor, CouldMeet, IsCoreOfGoals, IsTooLongWith, PrintedGoal, as_clashes, printed_clashes}
+use Rattle.claims.specs.{Explained.{printed_core}, Goals.{CanMeet}, Sentences.{ExplainIsTrue, IsFaithfulExplanation}, Settled.{IsPastBudget}}
 use Rattle.claims.specs.Sentences.IsFaithfulExplanation.{yes as yes_printed, core as core_printed, undecided as undecided_printed}
 use Rattle.claims.proofs.{AskingWords.{explain_words_ask}, Cores.{conflicts_are_kept, could_to, each_wanted, goals_are_kept, printed_goal}}
 use Rattle.claims.proofs.{Goals.{AreGoals, word_at, word_is}, Index.{indexes_are_read}, Meeting.{can_meet, meets_goals}}

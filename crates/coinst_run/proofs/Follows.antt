@@ -1,11 +1,13 @@
 -- What follows from the course of a command on a shelf, by the way it went.
-use Rattle.std.proofs.Common.{◌≡◌, ℕ, ◌<◌, ◌≤◌, Bool, List, length, cond, Option, Some, None, Result, Ok, Err, inl, inr, refl, sym, ap, subst, ◌∙◌, arith, lt-ltb, le-ltb}
+use Rattle.std.proofs.Common.{◌≡◌, ℕ, ◌<◌, ◌≤◌, Bool, List, length, cond, Option, Some, None, Result, Ok, Err, inl, inr, refl, sym, ap, subst, ◌∙◌, arith}
+use Rattle.std.proofs.Common.{lt-ltb, le-ltb}
 use Rattle.std.specs.Prelude.{IfOk, IfSome, IsNone, IsSomeAnd, OnOk}
 use Rattle.byte_flow.specs.{Flow.{FileIs, FileIsLonger, Files, LacksFile, Rose}, Models.{ShelfModel}, Transfer.{GivesUp, OnFailed, OnTooLong}}
 use Rattle.byte_flow.specs.{declared.transfer.ReadError.{ReadError}, declared.transfer.ReadError.TheVariants.{Failed, TooLong, Memory}}
 use Rattle.coinst_run.specs.{Answer.{Answer, CourseStage}, Course.{Course, answers, reads, then_on}, Ending.{IsReadEnding, Settles, StopsAt}}
-use Rattle.coinst_run.specs.Follows.{Follows, LeadsToRest, ReachesIndex, ReachesKernel, WasRead, WasTooLong, WasUnread, at_its_end, behind_a_text, at_an_unread_file, at_a_long_file, without_memory, without_memory_for_a_file}
-use Rattle.coinst_run.specs.{Index.{Index, checked_index, reads_index}, IndexKernel.{ClassedKernel, index_kernel}, Kernel.{kernel_of, reads_kernel}}
+use Rattle.coinst_run.specs.Follows.{Follows, LeadsToRest, ReachesIndex, ReachesKernel, WasRead, WasTooLong, WasUnread, at_its_end, behind_a_text}
+use Rattle.coinst_run.specs.{Follows.{at_an_unread_file, at_a_long_file, without_memory, without_memory_for_a_file}, Index.{Index, checked_index, reads_index}}
+use Rattle.coinst_run.specs.{IndexKernel.{ClassedKernel, index_kernel}, Kernel.{kernel_of, reads_kernel}}
 use Rattle.coinst_run.specs.Outcome.{Outcome, answered, unread, not_a_command, file_limit, outcome_over, over_file, too_long}
 use Rattle.coinst_run.proofs.Ends.{EndsAs}
 use Rattle.coinst_run.proofs.Ends as ends

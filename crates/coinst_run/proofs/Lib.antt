@@ -30,3 +30,5 @@ pub mod QuerySentences
 pub mod ExplainSentence
 pub mod MigrateSentence
 pub mod StatusSentence
+-- named here too, so that an attribute that cites it fits in a line
+pub use Rattle.std.proofs.Common.{append_assoc}

@@ -1,10 +1,10 @@
 -- The text of a comparison is cut into its lines, and each line tells what it is about.
-use Rattle.std.proofs.Common.{◌≡◌, ℕ, zero, suc, ◌==◌, ◌+◌, ◌/◌, ◌%◌, Bool, true, false, not, List, [], ◌∷◌, ◌++◌, inl, inr, refl, sym, ap, ap₂, ◌∙◌, subst, codes, eqb-true, map, length, filter, arith}
-use Rattle.std.proofs.{lemmas.Bool.{and_parts, and_from, not-true, not_from_false, false_from_ne_true}, lemmas.List.{append-nil, append_assoc}}
-use Rattle.std.proofs.lemmas.List.Folds.{list_all-append}
+use Rattle.std.proofs.Common.{◌≡◌, ℕ, zero, suc, ◌==◌, ◌+◌, ◌/◌, ◌%◌, Bool, true, false, not, List, [], ◌∷◌, ◌++◌, inl, inr, refl, sym, ap, ap₂, ◌∙◌, subst}
+use Rattle.std.proofs.{Common.{codes, eqb-true, map, length, filter, arith}, lemmas.Bool.{and_parts, and_from, not-true, not_from_false, false_from_ne_true}}
+use Rattle.std.proofs.{lemmas.List.{append-nil, append_assoc}, lemmas.List.Folds.{list_all-append}}
 use Rattle.std.specs.{Prelude.{if◌then◌else◌, nat_lt}, Fmt.{decimal, digits, digits_onto, digit_glyph}, List.{flat_map, list_all}}
-use Rattle.coinst_run.specs.CompareText.{comparison_line, comparison_text, end_text, is_open_line}
-use Rattle.suite_compare.specs.{Listing.{is_broken}, declared.report.ReportLine.{ReportLine}}
+use Rattle.coinst_run.specs.CompareText.{comparison_line, comparison_text, end_text}
+use Rattle.suite_compare.specs.{Listing.{is_broken, says_open}, declared.report.ReportLine.{ReportLine}}
 use Rattle.suite_compare.specs.declared.report.ReportLine.TheVariants.{Broken1, Broken2, Open1, Open2}
 use Rattle.deb_version.specs.Names.{is_name}
 use Rattle.kernel_text.specs.KernelLines.{lines_of}
@@ -84,13 +84,13 @@ texts (x ∷ xs) rest h =
     ∙ ap (λ z. comparison_line x ∷ z) (texts xs rest (λ line i. h line (there i)))
 
 end_body : List ReportLine → List ℕ
-end_body lines = codes "end " ++ decimal (length (filter is_broken lines)) ++ codes " " ++ decimal (length (filter is_open_line lines))
+end_body lines = codes "end " ++ decimal (length (filter is_broken lines)) ++ codes " " ++ decimal (length (filter says_open lines))
 
 end_line : (lines : List ReportLine) → lines_of (end_text lines) ≡ end_text lines ∷ []
 unfolding end_text end_body
 end_line lines =
     ap lines_of (sym (append-nil (end_body lines ++ 10 ∷ [])))
-    ∙ one_line (end_body lines) [] (no_feed_both (codes "end " ++ decimal (length (filter is_broken lines)) ++ codes " ") (decimal (length (filter is_open_line lines))) (no_feed_both (codes "end " ++ decimal (length (filter is_broken lines))) (codes " ") (number_fed (length (filter is_broken lines))) refl) (number_fed (length (filter is_open_line lines))))
+    ∙ one_line (end_body lines) [] (no_feed_both (codes "end " ++ decimal (length (filter is_broken lines)) ++ codes " ") (decimal (length (filter says_open lines))) (no_feed_both (codes "end " ++ decimal (length (filter is_broken lines))) (codes " ") (number_fed (length (filter is_broken lines))) refl) (number_fed (length (filter says_open lines))))
 
 pub lines_are : (lines : List ReportLine) → AreNamed lines → lines_of (comparison_text lines) ≡ map comparison_line lines ++ end_text lines ∷ []
 unfolding comparison_text

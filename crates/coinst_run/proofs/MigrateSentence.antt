@@ -1,8 +1,8 @@
 -- The sentence of `migrate`, from what its report means.
 use Rattle.suite_compare.specs.{Indexes.{HasPackageOf, Judged, SearchedIndex, searched}, Listing.{BothHave, ListsExactly, LosesNothing, is_broken}}
 use Rattle.suite_compare.specs.{Asking.{verdict_in}, Refusals.{home_in, packages_in}, declared.report.ReportLine.{ReportLine}}
-use Rattle.std.proofs.Common.{◌≡◌, ℕ, ◌+◌, ◌-◌, ◌≤◌, Bool, true, false, cond, not, ◌==◌, ◌||◌, List, [], ◌∷◌, ◌++◌, None, filter, length, map, refl, sym, ap, ap₂, subst, ◌∙◌, arith, append_assoc, inl, inr}
-use Rattle.std.proofs.lemmas.List.{append-nil}
+use Rattle.std.proofs.Common.{◌≡◌, ℕ, ◌+◌, ◌-◌, ◌≤◌, Bool, true, false, cond, not, ◌==◌, ◌||◌, List, [], ◌∷◌, ◌++◌, None, filter, length, map, refl, sym, ap}
+use Rattle.std.proofs.{Common.{ap₂, subst, ◌∙◌, arith, append_assoc, inl, inr}, lemmas.List.{append-nil}}
 use Rattle.std.specs.{Prelude.{codes, unwrap_or}, List.{flat_map, list_any}}
 use Rattle.byte_flow.specs.History.{OpenedFile}
 use Rattle.clause_pool.specs.Lists.{InOrder}

@@ -3,8 +3,8 @@ use Rattle.std.proofs.Common.{◌≡◌, ℕ, Bool, true, false, cond, List, [],
 use Rattle.std.specs.Prelude.{◌==◌}
 use Rattle.byte_flow.specs.{History.{OpenedFile, with_more}, Models.{ShelfModel, SinkModel}}
 use Rattle.coinst_run.specs.{declared.answer.ReportVerdict.{ReportVerdict}, Readings.{Noted, NotesReport, Prints, Reports}, declared.status.Status.{Status}}
-use Rattle.coinst_run.specs.declared.status.Status.TheVariants.{Done, Negative, Words, Content, ClauseLimit, ReadFault, WriteFault, Memory, Undecided, UnknownGoal, TooLarge}
-use Rattle.coinst_run.specs.Status.{code_of, verdict_status}
+use Rattle.coinst_run.specs.declared.status.Status.TheVariants.{Done, Negative, Words, Content, ClauseLimit, ReadFault, WriteFault, Memory, Undecided}
+use Rattle.coinst_run.specs.{declared.status.Status.TheVariants.{UnknownGoal, TooLarge}, Status.{code_of, verdict_status}}
 use Rattle.coinst_run.proofs.Readings.{readings_noted, writing_noted}
 
 -- the status of a code

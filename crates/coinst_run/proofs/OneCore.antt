@@ -1,6 +1,6 @@
 -- No two lists of conflicts have one text behind the same goals.
-use Rattle.std.proofs.Common.{◌≡◌, ℕ, Bool, true, false, List, [], ◌∷◌, ◌++◌, length, Option, Some, None, refl, sym, ap, ap₂, ◌∙◌, inl, inr, arith, get_or, append_assoc}
-use Rattle.std.proofs.lemmas.List.{append_cancel_left}
+use Rattle.std.proofs.Common.{◌≡◌, ℕ, Bool, true, false, List, [], ◌∷◌, ◌++◌, length, Option, Some, None, refl, sym, ap, ap₂, ◌∙◌, inl, inr, arith, get_or}
+use Rattle.std.proofs.{Common.{append_assoc}, lemmas.List.{append_cancel_left}}
 use Rattle.std.specs.{Prelude.{IfSome, codes}, List.{flat_map}}
 use Rattle.explain_core.specs.{declared.explanation.Clash.{Clash}, declared.explanation.Mark.{Mark}, OnStanzas.{AreClashesOf}}
 use Rattle.kernel_text.proofs.Spelling.{cut_same}

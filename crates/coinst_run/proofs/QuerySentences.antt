@@ -1,6 +1,6 @@
 -- The sentences of `query`, of an index and of a stored kernel, and that a printed kernel is settled, from what a report means.
 use Rattle.suite_compare.specs.Indexes.{SearchedIndex, SearchedIndex, searched}
-use Rattle.std.proofs.Common.{◌≡◌, ℕ, ◌<◌, ◌≤◌, Bool, true, false, List, [], None, length, refl, sym, ap, ap₂, subst, ◌∙◌, ◌+◌, arith}
+use Rattle.std.proofs.Common.{◌≡◌, ℕ, ◌<◌, ◌≤◌, Bool, true, false, List, [], None, length, refl, sym, ap, ap₂, subst, ◌∙◌, arith}
 use Rattle.std.proofs.lemmas.Bool.Decides.{nat_tests}
 use Rattle.std.specs.Prelude.{is_some, nat_lt, unwrap_or}
 use Rattle.byte_flow.specs.History.{OpenedFile}
@@ -11,11 +11,9 @@ use Rattle.kernel_text.specs.Images as stored
 use Rattle.kernel_text.specs.Serving.{images_in}
 use Rattle.kernel_text.proofs.StoredReading.{one_reading}
 use Rattle.listed.specs.Lists.{In, has}
-use Rattle.listed.proofs.Lists.{In_at, filter_cases}
-use Rattle.relation_fields.specs.declared.packages.PackageFacts.{PackageFacts}
-use Rattle.repo_model.specs.{FirstFault.{first_fault}, Goals.{CoinstGoals, is_named_by, packages_named}, Repository.{packages_of, suite_repository}}
+use Rattle.listed.proofs.Lists.{In_at}
+use Rattle.repo_model.specs.{FirstFault.{first_fault}, Goals.{CoinstGoals, is_named_by, packages_named}, Repository.{suite_repository}}
 use Rattle.repo_model.specs.{Stanzas.{no_stanza, stanza_at}, declared.goals.Goal.{Goal}}
-use Rattle.repo_model.proofs.Elements.{range_cases}
 use Rattle.row_book.specs.Rounds.{kernel}
 use Rattle.search_terms.specs.{Form.{form}, Tree.{Tree, failed_leaves, found_of}, declared.literals.Literal.{Literal}}
 use Rattle.suite_compare.specs.{Asking.{asked_tree, tree_of}, Refusals.{home_in, packages_in}}
@@ -35,6 +33,7 @@ use Rattle.coinst_run.specs.{IndexKernel.{classed_kernel, index_kernel, members_
 use Rattle.coinst_run.specs.{QueryMeaning.{MeansVerdict, NoMeans, QueryMeans, YesMeans}, QueryText.{no_text, undecided_text, yes_text}}
 use Rattle.coinst_run.specs.StoredMeaning.{MeansStored, StoredMeans, StoredNo, StoredUndecided, StoredYes}
 use Rattle.coinst_run.proofs.{QueryMeant.{formed}, StoredMeant.{is_tree}}
+use Rattle.suite_compare.proofs.Gathering.{named_inside}
 
 -- the printed kernel is the text of the kernel
 kernel_is_printed : (text : List ℕ) (limit : ℕ) (hold : Bool) (printed : List ℕ) → KernelMeans text limit hold printed → printed ≡ kernel_printed limit hold (home_in text) (packages_in text)
@@ -57,13 +56,6 @@ kernel_is_settled words readings verdict printed m limit hold path low is =
       (refl, refl, refl),
       subst (IsKernelText (as_read index)) (sym (kernel_is_printed means.0 n hold printed k)) (kernel_texts_are_there index k.accepted),
     )
-
--- what a goal names is there
-pub named_inside : (stanzas : List PackageFacts) (goal : Goal) (n : ℕ) → In n (packages_named stanzas goal) → n < length stanzas
-named_inside stanzas goal n i =
-    let w = filter_cases (λ m. is_named_by goal (stanza_at stanzas m)) (packages_of stanzas) n i in
-    let p : (0 ≤ n) × (n < 0 + length stanzas) = range_cases (length stanzas) 0 n w.0 in
-    omega (arith, p.1)
 
 -- a query of an index
 module _ (text : Text) (budget limit : ℕ) (hold : Bool) (words : List Text) (goals : List Goal) (z : AreGoals words goals) (accepted : first_fault text ≡ None) where

@@ -1,5 +1,6 @@
 -- What a run read and printed, by how its course ended.
-use Rattle.std.proofs.Common.{◌≡◌, ℕ, Bool, true, List, [], ◌∷◌, ◌++◌, take, drop, Option, Some, None, refl, sym, ap, subst, ◌∙◌, append_assoc, append-nil, take-append-drop}
+use Rattle.std.proofs.Common.{◌≡◌, ℕ, Bool, true, List, [], ◌∷◌, ◌++◌, take, drop, Option, Some, None, refl, sym, ap, subst, ◌∙◌, append_assoc, append-nil}
+use Rattle.std.proofs.Common.{take-append-drop}
 use Rattle.std.specs.Prelude.{IfSome}
 use Rattle.byte_flow.specs.{Flow.{FileIs, Files}, History.{OpenedFile, noted, with_more}, Models.{ShelfModel, SinkModel}}
 use Rattle.byte_flow.specs.Transfer.{HandsOver, Reached, Sent, begun, piece_size, read_on, sent_on, started}

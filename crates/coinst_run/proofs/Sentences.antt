@@ -4,7 +4,7 @@ use Rattle.std.proofs.lemmas.List.{append-nil}
 use Rattle.std.specs.{Prelude.{codes, unwrap_or}, Fmt.{decimal}, List.{flat_map, list_any}}
 use Rattle.byte_flow.specs.History.{OpenedFile}
 use Rattle.coinst_words.specs.{Jobs.{job_of}, declared.job.Job.TheVariants.{Kernel, Compare}}
-use Rattle.suite_compare.specs.{Indexes.{searched}, Listing.{is_broken}, Refusals.{home_in, packages_in}, declared.report.ReportLine.{ReportLine}}
+use Rattle.suite_compare.specs.{Indexes.{searched}, Listing.{is_broken, says_open}, Refusals.{home_in, packages_in}, declared.report.ReportLine.{ReportLine}}
 use Rattle.suite_compare.specs.declared.report.ReportLine.TheVariants.{Broken1, Broken2, Open1, Open2}
 use Rattle.kernel_text.specs.{KernelText.{format_of}, declared.member.Member.{Member}}
 use Rattle.listed.specs.Lists.{In}
@@ -13,10 +13,10 @@ use Rattle.claims.specs.{Classes.{IsOneOf}, Printed.{comparison_status, printed_
 use Rattle.claims.specs.Laws.{as_read}
 use Rattle.claims.proofs.{PrintedKernels.{people}, CompareSentence.{comparisons_mean_this}, KernelSentence.{kernels_mean_this}}
 use Rattle.claims.proofs.Words.{compare_words_ask, kernel_words_ask}
-use Rattle.coinst_run.specs.IndexKernel.{classed_kernel, index_kernel}
-use Rattle.coinst_run.specs.{CompareText.{comparison_line, comparison_text, comparison_verdict, end_text, is_open_line}, CompareMeaning.{CompareMeans}}
-use Rattle.coinst_run.specs.{KernelMeaning.{KernelMeans}, Lines.{line_of_text}, Meaning.{IsMeant, MeansJob}, Status.{code_of, verdict_status}}
-use Rattle.coinst_run.specs.{declared.answer.ReportVerdict.{ReportVerdict}, declared.answer.ReportVerdict.TheVariants.{Done, Negative, Undecided}}
+use Rattle.coinst_run.specs.{IndexKernel.{classed_kernel, index_kernel}, CompareText.{comparison_line, comparison_text, comparison_verdict, end_text}}
+use Rattle.coinst_run.specs.{CompareMeaning.{CompareMeans}, KernelMeaning.{KernelMeans}, Lines.{line_of_text}, Meaning.{IsMeant, MeansJob}}
+use Rattle.coinst_run.specs.{Status.{code_of, verdict_status}, declared.answer.ReportVerdict.{ReportVerdict}}
+use Rattle.coinst_run.specs.declared.answer.ReportVerdict.TheVariants.{Done, Negative, Undecided}
 use Rattle.listed.proofs.Lists.{flat_same}
 
 -- each member is a stanza
@@ -52,13 +52,13 @@ same_text : (lines : List ReportLine) → comparison_text lines ≡ printed_comp
 unfolding comparison_text end_text printed_comparison
 same_text lines =
     let broken : List ℕ = decimal (length (filter is_broken lines)) in
-    let undecided : List ℕ = decimal (length (filter is_open_line lines)) in
+    let undecided : List ℕ = decimal (length (filter says_open lines)) in
     ap (λ t. t ++ end_text lines) (flat_same comparison_line printed_line lines (λ l i. same_line l))
     ∙ ap (λ t. flat_map printed_line lines ++ line_of_text (codes "end " ++ t)) (append_assoc broken (codes " ") undecided)
 
 -- the status of a list in both spellings
 comparison_ends : (lines : List ReportLine) → code_of (verdict_status (comparison_verdict lines)) ≡ comparison_status lines
-comparison_ends lines = by (list_any is_broken lines) (list_any is_open_line lines)
+comparison_ends lines = by (list_any is_broken lines) (list_any says_open lines)
   where
     by : (a b : Bool) → code_of (verdict_status (cond a Negative (cond b Undecided Done))) ≡ cond a 1 (cond b 8 0)
     by true b = refl

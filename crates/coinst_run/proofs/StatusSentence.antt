@@ -1,7 +1,7 @@
 -- The sentence of `status`, from what its report means.
 use Rattle.suite_compare.specs.Indexes.{SearchedIndex, searched}
-use Rattle.std.proofs.Common.{◌≡◌, ℕ, zero, suc, ◌+◌, ◌-◌, ◌<◌, Bool, true, false, not, cond, eqb, List, [], ◌∷◌, ◌++◌, Some, None, filter, length, map, refl, sym, ap, ap₂, subst, ◌∙◌, arith, inl, inr, eqb-true}
-use Rattle.std.proofs.{lemmas.Bool.{and_from, and_parts, cases_Bool}, lemmas.List.{length-map}}
+use Rattle.std.proofs.Common.{◌≡◌, ℕ, zero, suc, ◌+◌, ◌-◌, ◌<◌, Bool, true, false, not, cond, eqb, List, [], ◌∷◌, ◌++◌, Some, None, filter, length, map, refl}
+use Rattle.std.proofs.{Common.{sym, ap, ap₂, subst, ◌∙◌, arith, inl, inr, eqb-true}, lemmas.Bool.{and_from, and_parts, cases_Bool}, lemmas.List.{length-map}}
 use Rattle.std.specs.{Prelude.{codes, count_by, unwrap_or}, Fmt.{decimal}, List.{flat_map}, Ordering.{is_eq}, Str.{bytes_eq}}
 use Rattle.byte_flow.specs.History.{OpenedFile}
 use Rattle.clause_solver.specs.{declared.outcomes.Verdict.{Verdict}, declared.outcomes.Verdict.TheVariants.{Yes, No, Spent}}
@@ -19,7 +19,7 @@ use Rattle.status_check.specs.declared.report.OwnState.TheVariants as state
 use Rattle.status_check.specs.declared.report.SuiteState.TheVariants as suite
 use Rattle.suite_compare.specs.{Asking.{HasVerdict, verdict_in}, Refusals.{home_in, packages_in}}
 use Rattle.suite_compare.proofs.Deciding.{named_from, named_parts, verdict_is_judged}
-use Rattle.claims.specs.{Control.{stanza_groups}, Index.{is_one_package}, Laws.{as_read}}
+use Rattle.claims.specs.{Control.{stanza_groups}, Index.{is_one_package}}
 use Rattle.claims.specs.Systems.{goal_word_of, has_package, is_foreign_group, printed_state, printed_system, system_status}
 use Rattle.claims.specs.{Sentences.{IsFaithfulSystem, IsSuiteAnswer, StatusIsTrue}, Sentences.IsSuiteAnswer.{suite_no, suite_undecided, suite_yes}}
 use Rattle.claims.proofs.{AskingWords.{status_words_ask}, Goals.{AreGoals, goal_cut}, Index.{indexes_are_read}, Meeting.{can_meet}, Members.{text_same}}
@@ -27,7 +27,8 @@ use Rattle.claims.proofs.Systems.{Tells, state_of_all, tells}
 use Rattle.coinst_run.specs.{Meaning.{IsMeant, MeansJob}, SystemMeaning.{SystemMeans}, Lines.{end_text}}
 use Rattle.coinst_run.specs.SystemText.{have_text, is_had as line_had, is_lacking, line_at, own_text, suite_text, system_text, system_verdict}
 use Rattle.coinst_run.specs.{Status.{code_of, verdict_status}, declared.answer.ReportVerdict.{ReportVerdict}}
-use Rattle.coinst_run.proofs.QuerySentences.{cannot, in_time, named_inside, past}
+use Rattle.coinst_run.proofs.QuerySentences.{cannot, in_time, past}
+use Rattle.suite_compare.proofs.Gathering.{named_inside}
 
 module _ (text : Text) (budget limit : ℕ) (hold : Bool) (fine : first_fault text ≡ None) where
   abbrev index : SearchedIndex

@@ -1,6 +1,6 @@
 -- What the report of a query of a stored kernel means.
-use Rattle.std.proofs.Common.{◌≡◌, ℕ, ◌+◌, ◌<◌, ◌≤◌, Bool, List, [], ◌∷◌, ◌++◌, length, filter, Option, Some, None, Result, Ok, Err, inr, refl, sym, ap, ap₂, subst, ◌∙◌, append_assoc, arith}
-use Rattle.std.proofs.{Math.Path.{fun_ext}, lemmas.List.{append_cancel_left}}
+use Rattle.std.proofs.Common.{◌≡◌, ℕ, ◌+◌, ◌<◌, ◌≤◌, Bool, List, [], ◌∷◌, ◌++◌, length, filter, Option, Some, None, Result, Ok, Err, inr, refl, sym, ap, ap₂}
+use Rattle.std.proofs.{Common.{subst, ◌∙◌, append_assoc, arith}, Math.Path.{fun_ext}, lemmas.List.{append_cancel_left}}
 use Rattle.std.specs.{Prelude.{codes}, Fmt.{decimal}, List.{flat_map}}
 use Rattle.listed.proofs.{Lists.{In_has}, Orders.{ascending_filter}}
 use Rattle.byte_flow.specs.History.{OpenedFile}

@@ -1,6 +1,7 @@
 -- A line that is written piece by piece.
-use Rattle.std.proofs.Common.{◌≡◌, ℕ, ◌<◌, ◌≤◌, ◌+◌, List, [], ◌∷◌, ◌++◌, length, take, drop, get_or, Option, Some, None, refl, sym, ap, ◌∙◌, inl, inr, subst, arith, add-one, append_assoc, append-nil, drop-cons, take_all}
-use Rattle.std.proofs.{Math.Seq.{take-append-add}, lemmas.List.{drop_all, take-append-le, take-append-drop, take_more}, lemmas.List.Concat.{flat_map-append}}
+use Rattle.std.proofs.Common.{◌≡◌, ℕ, ◌<◌, ◌≤◌, ◌+◌, List, [], ◌∷◌, ◌++◌, length, take, drop, get_or, Option, Some, None, refl, sym, ap, ◌∙◌, inl, inr, subst}
+use Rattle.std.proofs.{Common.{arith, add-one, append_assoc, append-nil, drop-cons, take_all}, Math.Seq.{take-append-add}}
+use Rattle.std.proofs.{lemmas.List.{drop_all, take-append-le, take-append-drop, take_more}, lemmas.List.Concat.{flat_map-append}}
 use Rattle.std.specs.{Borrow.{Bor}, Io.KnownBytes.{Appends}, List.{flat_map}}
 use Rattle.byte_flow.specs.{Flow.{Rose}, Models.{SinkModel}, Transfer.{LastWriteFailed, Sent, begun, sent_on}}
 use Rattle.coinst_run.specs.Delivers.{Offered, Tells, not_begun, offered_on}

@@ -1,6 +1,7 @@
 -- What a command answers.
 use Rattle.std.specs.Prelude.{ℕ, List, Result}
-use Rattle.coinst_run.specs.{declared.answer.Cause.{Cause}, declared.answer.ReportVerdict.{ReportVerdict}}
+use Rattle.coinst_run.specs.declared.answer.Cause.{Cause}
+use Rattle.coinst_run.specs.declared.answer.ReportVerdict.{ReportVerdict}
 
 -- a report and what it says as a whole, or what was refused and the line that says so
 pub data Answer : Type 0 where

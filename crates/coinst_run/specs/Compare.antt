@@ -1,8 +1,11 @@
 -- The command that lists what a newer index has broken of an older one.
 use Rattle.std.specs.Prelude.{ℕ, Bool, List}
-use Rattle.suite_compare.specs.{Asking.{verdict_in}, Names.{names_of_both}, Report.{report}, declared.report.ReportLine.{ReportLine}}
-use Rattle.coinst_run.specs.{Answer.{Answer, reported}, CompareText.{comparison_text, comparison_verdict}, Course.{Course, answers}, Index.{Index}}
-use Rattle.coinst_run.specs.{IndexKernel.{ClassedKernel}, Kernel.{reads_kernel}}
+use Rattle.suite_compare.specs.{Asking.{verdict_in}, Names.{names_of_both}, Report.{report}}
+use Rattle.suite_compare.specs.declared.report.ReportLine.{ReportLine}
+use Rattle.coinst_run.specs.Answer.{Answer, reported}
+use Rattle.coinst_run.specs.CompareText.{comparison_text, comparison_verdict}
+use Rattle.coinst_run.specs.{Course.{Course, answers}, Index.{Index}, IndexKernel.{ClassedKernel}}
+use Rattle.coinst_run.specs.Kernel.{reads_kernel}
 
 -- the list of what the newer index has broken, by the verdicts of the two kernels
 unfoldable pub broken_lines : ℕ → ℕ → Bool → Index → Index → List ReportLine

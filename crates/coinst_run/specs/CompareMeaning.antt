@@ -1,12 +1,16 @@
 -- What the report of a comparison means for the two indexes.
 use Rattle.std.specs.Prelude.{◌≡◌, ℕ, Bool, List, length, None, Some, [], ◌∷◌, ◌++◌, filter, map}
 use Rattle.byte_flow.specs.History.{OpenedFile}
-use Rattle.suite_compare.specs.{Indexes.{Judged, searched}, Listing.{ListsExactly, ListsLosses, LosesNothing}, declared.report.ReportLine.{ReportLine}}
+use Rattle.suite_compare.specs.Indexes.{Judged, searched}
+use Rattle.suite_compare.specs.Listing.{ListsExactly, ListsLosses, LosesNothing, says_open}
+use Rattle.suite_compare.specs.declared.report.ReportLine.{ReportLine}
 use Rattle.kernel_text.specs.KernelLines.{lines_of}
 use Rattle.repo_model.specs.FirstFault.{first_fault}
-use Rattle.coinst_run.specs.{declared.answer.ReportVerdict.{ReportVerdict}, declared.answer.ReportVerdict.TheVariants.{Done}, Answer.{reported}}
+use Rattle.coinst_run.specs.declared.answer.ReportVerdict.{ReportVerdict}
+use Rattle.coinst_run.specs.{declared.answer.ReportVerdict.TheVariants.{Done}, Answer.{reported}}
 use Rattle.coinst_run.specs.{Compare.{compare_course}, ComparePrints.{PrintsExactly}}
-use Rattle.coinst_run.specs.{CompareText.{comparison_line, comparison_text, comparison_verdict, end_text, is_open_line}, Outcome.{GivesAnswer}}
+use Rattle.coinst_run.specs.CompareText.{comparison_line, comparison_text, comparison_verdict}
+use Rattle.coinst_run.specs.{CompareText.{end_text}, Outcome.{GivesAnswer}}
 
 -- Both texts are indexes without a fault. The line `broken NAME` is printed for exactly those names
 -- of both that the older index can install and the newer one cannot. The line `open NAME` is
@@ -26,7 +30,7 @@ pub record CompareMeans (old new : List ℕ) (budget limit : ℕ) (hold : Bool)
   pub exact : ListsExactly Judged (searched old budget limit hold)
       (searched new budget limit hold) lines
   pub cut : lines_of printed ≡ map comparison_line lines ++ end_text lines ∷ []
-  pub losses : length (filter is_open_line lines) ≡ 0 →
+  pub losses : length (filter says_open lines) ≡ 0 →
       ListsLosses (searched old budget limit hold) (searched new budget limit hold) lines
   pub nothing_lost : verdict ≡ Done →
       LosesNothing (searched old budget limit hold) (searched new budget limit hold)

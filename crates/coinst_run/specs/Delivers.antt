@@ -1,9 +1,13 @@
 -- What the two sinks take of an answer, and the status.
-use Rattle.std.specs.{Prelude.{◌≡◌, ℕ, ◌<◌, ◌≤◌, ◌⊎◌, List, [], ◌++◌, drop, length, take, Option, Some, None, ⊤}, Io.KnownBytes.{Appends}}
+use Rattle.std.specs.Prelude.{◌≡◌, ℕ, ◌<◌, ◌≤◌, ◌⊎◌, List, [], ◌++◌, drop, length, take, Option}
+use Rattle.std.specs.{Prelude.{Some, None, ⊤}, Io.KnownBytes.{Appends}}
 use Rattle.byte_flow.specs.{Flow.{Rose}, Models.{SinkModel}, Transfer.{LastWriteFailed, Sent}}
-use Rattle.coinst_run.specs.{declared.answer.ReportVerdict.{ReportVerdict}, declared.status.Status.{Status}}
-use Rattle.coinst_run.specs.{declared.status.Status.TheVariants.{Memory, WriteFault}, Answer.{reported, refused}, Lines.{cut_line, memory_line}}
-use Rattle.coinst_run.specs.{Outcome.{Outcome, answered, unread, not_a_command, line_of, status_of}, Status.{verdict_status}}
+use Rattle.coinst_run.specs.declared.answer.ReportVerdict.{ReportVerdict}
+use Rattle.coinst_run.specs.declared.status.Status.{Status}
+use Rattle.coinst_run.specs.declared.status.Status.TheVariants.{Memory, WriteFault}
+use Rattle.coinst_run.specs.{Answer.{reported, refused}, Lines.{cut_line, memory_line}}
+use Rattle.coinst_run.specs.Outcome.{Outcome, answered, unread, not_a_command, line_of, status_of}
+use Rattle.coinst_run.specs.Status.{verdict_status}
 
 -- The sink is reached from the sink `old` by writes, and these bytes are left. Each write was given
 -- a front of what was left of the line, and took at least one byte.

@@ -1,12 +1,14 @@
 -- The outcome that an answer in memory stands for; none if no memory was found.
 use Rattle.std.specs.Prelude.{◌≡◌, ℕ, List, Option, Some, None, Result, Ok, Err, ⊤}
-use Rattle.byte_flow.specs.{declared.transfer.ReadError.{ReadError}, declared.transfer.ReadError.TheVariants.{Failed, TooLong}}
+use Rattle.byte_flow.specs.declared.transfer.ReadError.{ReadError}
+use Rattle.byte_flow.specs.declared.transfer.ReadError.TheVariants.{Failed, TooLong}
 use Rattle.byte_flow.specs.declared.transfer.ReadError.TheVariants as read
 use Rattle.coinst_run.specs.{declared.answer.Report.{Report}, declared.answer.Stop.{Stop}}
 use Rattle.coinst_run.specs.declared.answer.Stop.TheVariants.{NotACommand, Refused, Unread, Memory}
 use Rattle.coinst_words.specs.declared.error.WordError.{WordError}
 use Rattle.coinst_words.specs.declared.error.WordError.TheVariants as words
-use Rattle.coinst_run.specs.{Answer.{CourseStage, reported, refused}, Course.{Course, answers}, Outcome.{Outcome, answered, unread, not_a_command, too_long}}
+use Rattle.coinst_run.specs.{Answer.{CourseStage, reported, refused}, Course.{Course, answers}}
+use Rattle.coinst_run.specs.Outcome.{Outcome, answered, unread, not_a_command, too_long}
 
 abbrev pub stop_ending : Stop → Option Outcome
 stop_ending NotACommand = Some not_a_command

@@ -1,13 +1,16 @@
 -- The command that says why one package for each goal cannot be installed together.
 use Rattle.std.specs.Prelude.{ℕ, Bool, List, Option, Some, None}
-use Rattle.explain_core.specs.{Explaining.{explanation_of}, declared.explanation.Explanation.{Explanation}}
+use Rattle.explain_core.specs.Explaining.{explanation_of}
+use Rattle.explain_core.specs.declared.explanation.Explanation.{Explanation}
 use Rattle.explain_core.specs.declared.explanation.Explanation.TheVariants.{Yes, Spent, Core}
 use Rattle.relation_fields.specs.declared.packages.PackageFacts.{PackageFacts}
 use Rattle.repo_model.specs.declared.goals.Goal.{Goal}
 use Rattle.suite_compare.specs.Answering.{unknown_goal}
-use Rattle.coinst_run.specs.{declared.answer.ReportVerdict.TheVariants.{Done, Negative, Undecided}, Answer.{Answer, reported}, Course.{Course, answers}}
-use Rattle.coinst_run.specs.{ExplainText.{core_text, yes_line}, Index.{Index}, IndexKernel.{ClassedKernel}, Kernel.{reads_kernel}, Query.{unknown_answer}}
-use Rattle.coinst_run.specs.QueryText.{undecided_text}
+use Rattle.coinst_run.specs.declared.answer.ReportVerdict.TheVariants.{Done, Negative, Undecided}
+use Rattle.coinst_run.specs.{Answer.{Answer, reported}, Course.{Course, answers}}
+use Rattle.coinst_run.specs.{ExplainText.{core_text, yes_line}, Index.{Index}}
+use Rattle.coinst_run.specs.{IndexKernel.{ClassedKernel}, Kernel.{reads_kernel}}
+use Rattle.coinst_run.specs.{Query.{unknown_answer}, QueryText.{undecided_text}}
 
 -- the report on an explanation
 abbrev pub explanation_answer : List PackageFacts → List Goal → ℕ → Explanation → Answer

@@ -1,14 +1,20 @@
 -- What the report of an explanation means for the index that was asked, judged on its stanzas.
 use Rattle.std.specs.Prelude.{◌≡◌, ℕ, Bool, List, length, Option, Some, None, IfSome, [], ◌∷◌, ◌≤◌}
 use Rattle.byte_flow.specs.History.{OpenedFile}
-use Rattle.explain_core.specs.{Core.{marked_goals}, Explaining.{explanation_of}, Meaning.{IsCoreOf}, declared.explanation.Clash.{Clash}}
-use Rattle.explain_core.specs.{declared.explanation.Explanation.TheVariants.{Core}, declared.explanation.Mark.{Mark}, OnStanzas.{AreClashesOf, AreEnough}}
-use Rattle.repo_model.specs.{FirstFault.{first_fault}, Goals.{CoinstGoals, packages_named}, declared.goals.Goal.{Goal}}
+use Rattle.explain_core.specs.{Core.{marked_goals}, Explaining.{explanation_of}, Meaning.{IsCoreOf}}
+use Rattle.explain_core.specs.declared.explanation.Clash.{Clash}
+use Rattle.explain_core.specs.declared.explanation.Explanation.TheVariants.{Core}
+use Rattle.explain_core.specs.declared.explanation.Mark.{Mark}
+use Rattle.explain_core.specs.OnStanzas.{AreClashesOf, AreEnough}
+use Rattle.repo_model.specs.{FirstFault.{first_fault}, Goals.{CoinstGoals, packages_named}}
+use Rattle.repo_model.specs.declared.goals.Goal.{Goal}
 use Rattle.listed.specs.Lists.{In}
 use Rattle.search_terms.specs.Tree.{failed_leaves}
 use Rattle.suite_compare.specs.{Asking.{asked_tree}, Refusals.{home_in, packages_in}}
-use Rattle.coinst_run.specs.{declared.answer.ReportVerdict.{ReportVerdict}, declared.answer.ReportVerdict.TheVariants.{Done, Negative, Undecided}}
-use Rattle.coinst_run.specs.{Answer.{reported}, Explain.{explain_course}, ExplainText.{core_text, yes_line}, Outcome.{GivesAnswer}}
+use Rattle.coinst_run.specs.declared.answer.ReportVerdict.{ReportVerdict}
+use Rattle.coinst_run.specs.declared.answer.ReportVerdict.TheVariants.{Done, Negative, Undecided}
+use Rattle.coinst_run.specs.{Answer.{reported}, Explain.{explain_course}}
+use Rattle.coinst_run.specs.{ExplainText.{core_text, yes_line}, Outcome.{GivesAnswer}}
 use Rattle.coinst_run.specs.QueryMeaning.{UndecidedMeans}
 
 -- The goals are co-installable.

@@ -1,9 +1,12 @@
 -- The texts of an explanation.
-use Rattle.std.specs.{Prelude.{ℕ, Bool, List, ◌++◌, codes, length, if◌then◌else◌, Option, Some, None}, List.{flat_map}}
-use Rattle.explain_core.specs.{Core.{goal_numbered}, declared.explanation.Clash.{Clash}, declared.explanation.Mark.{Mark}}
+use Rattle.std.specs.Prelude.{ℕ, Bool, List, ◌++◌, codes, length, if◌then◌else◌, Option, Some, None}
+use Rattle.std.specs.List.{flat_map}
+use Rattle.explain_core.specs.{Core.{goal_numbered}, declared.explanation.Clash.{Clash}}
+use Rattle.explain_core.specs.declared.explanation.Mark.{Mark}
 use Rattle.relation_fields.specs.declared.packages.PackageFacts.{PackageFacts}
 use Rattle.repo_model.specs.{Stanzas.{stanza_at}, declared.goals.Goal.{Goal}}
-use Rattle.coinst_run.specs.{Lines.{end_text, line_of_text, pair_text, versioned_text}, QueryText.{goal_word}}
+use Rattle.coinst_run.specs.Lines.{end_text, line_of_text, pair_text, versioned_text}
+use Rattle.coinst_run.specs.QueryText.{goal_word}
 
 -- the goals can be met together
 unfoldable pub yes_line : List ℕ

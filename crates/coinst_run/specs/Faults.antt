@@ -1,8 +1,13 @@
--- What a fault of an index is refused as; want of memory is no fault of a text, and this row is
--- never asked for.
-use Rattle.coinst_run.specs.{declared.answer.Cause.{Cause}, declared.answer.Cause.TheVariants.{Content, TooLarge}}
+-- The cause of refusal for each fault of an index. Want of memory is no fault of a text, so its row
+-- is never asked for.
+use Rattle.coinst_run.specs.declared.answer.Cause.{Cause}
+use Rattle.coinst_run.specs.declared.answer.Cause.TheVariants.{Content, TooLarge}
 use Rattle.repo_model.specs.declared.fault.IndexFault.{IndexFault}
-use Rattle.repo_model.specs.declared.fault.IndexFault.TheVariants.{Stanza, MissingPackage, MissingVersion, BadPackage, BadVersion, BadArchitecture, BadRelation, Duplicate, Mixed, TooMany, Memory}
+use Rattle.repo_model.specs.declared.fault.IndexFault.TheVariants.{Stanza, MissingPackage}
+use Rattle.repo_model.specs.declared.fault.IndexFault.TheVariants.{MissingVersion, BadPackage}
+use Rattle.repo_model.specs.declared.fault.IndexFault.TheVariants.{BadVersion, BadArchitecture}
+use Rattle.repo_model.specs.declared.fault.IndexFault.TheVariants.{BadRelation, Duplicate, Mixed}
+use Rattle.repo_model.specs.declared.fault.IndexFault.TheVariants.{TooMany, Memory}
 
 abbrev pub fault_cause : IndexFault → Cause
 fault_cause (Stanza fault) = Content

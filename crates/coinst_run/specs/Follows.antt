@@ -1,9 +1,12 @@
 -- What the work of a command does to a shelf.
 use Rattle.std.specs.Prelude.{◌≡◌, ◌<◌, ◌≤◌, false, ◌⊎◌, ℕ, Bool, List, length, Option, Some, None}
-use Rattle.byte_flow.specs.{Flow.{FileIs, FileIsLonger, LacksFile, Rose}, Models.{ShelfModel}, Transfer.{BreaksOff, HandsOver, PassesLimit, StopsWithin}}
+use Rattle.byte_flow.specs.{Flow.{FileIs, FileIsLonger, LacksFile, Rose}, Models.{ShelfModel}}
+use Rattle.byte_flow.specs.Transfer.{BreaksOff, HandsOver, PassesLimit, StopsWithin}
 use Rattle.coinst_words.specs.declared.job.Job.{Job}
-use Rattle.coinst_run.specs.{Answer.{Answer}, Course.{Course, answers, reads}, Index.{Index, reads_index}, IndexKernel.{ClassedKernel, index_kernel}}
-use Rattle.coinst_run.specs.{Kernel.{reads_kernel}, Meaning.{course_of}, Outcome.{Outcome, answered, unread, not_a_command, file_limit, too_long}}
+use Rattle.coinst_run.specs.{Answer.{Answer}, Course.{Course, answers, reads}}
+use Rattle.coinst_run.specs.{Index.{Index, reads_index}, IndexKernel.{ClassedKernel, index_kernel}}
+use Rattle.coinst_run.specs.{Kernel.{reads_kernel}, Meaning.{course_of}}
+use Rattle.coinst_run.specs.Outcome.{Outcome, answered, unread, not_a_command, file_limit, too_long}
 
 -- The file at the path was read whole, by the calls of one reading and no others, and this is the
 -- text that they handed over.

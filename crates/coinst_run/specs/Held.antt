@@ -1,5 +1,5 @@
 -- for the bodies of this crate alone
--- What is held of the text of an index once it was read.
+-- What is kept of the text of an index after it was read.
 use Rattle.std.specs.Prelude.{◌≡◌, ℕ, List, length}
 use Rattle.byte_flow.specs.Models.{ShelfModel}
 use Rattle.repo_model.specs.Feeding.{IsSuiteOf}

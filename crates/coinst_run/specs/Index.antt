@@ -1,10 +1,13 @@
 -- What an index without a fault says: its packages in file order, and its home, the common
 -- architecture of those that are not of `all`.
 use Rattle.std.specs.Prelude.{ℕ, List, Option, Some, None, Ok, Err}
-use Rattle.relation_fields.specs.{declared.packages.Home.{Home}, declared.packages.PackageFacts.{PackageFacts}}
-use Rattle.repo_model.specs.{declared.fault.IndexFault.{IndexFault}, declared.suite.Suite.{Suite}, FirstFault.{first_fault}}
+use Rattle.relation_fields.specs.declared.packages.Home.{Home}
+use Rattle.relation_fields.specs.declared.packages.PackageFacts.{PackageFacts}
+use Rattle.repo_model.specs.{declared.fault.IndexFault.{IndexFault}, declared.suite.Suite.{Suite}}
+use Rattle.repo_model.specs.FirstFault.{first_fault}
 use Rattle.suite_compare.specs.Refusals.{home_in, packages_in}
-use Rattle.coinst_run.specs.{Answer.{CourseStage, refused}, Course.{Course, reads, then_on}, Faults.{fault_cause}, Lines.{fault_line}}
+use Rattle.coinst_run.specs.{Answer.{CourseStage, refused}, Course.{Course, reads, then_on}}
+use Rattle.coinst_run.specs.{Faults.{fault_cause}, Lines.{fault_line}}
 
 pub record Index : Type 0 where
   pub home : Home

@@ -1,10 +1,13 @@
 -- The kernel of an index: that of its repository at a clause limit, with hold or without, with the
 -- packages of each class as its members.
 use Rattle.std.specs.Prelude.{ℕ, Bool, List, length, map}
-use Rattle.kernel_text.specs.{KernelJson.{kernel_json}, KernelText.{format_of, kernel_text}, Members.{kernel_members}, declared.member.Member.{Member}}
-use Rattle.relation_fields.specs.{declared.packages.Home.{Home}, declared.packages.PackageFacts.{PackageFacts}}
+use Rattle.kernel_text.specs.{KernelJson.{kernel_json}, KernelText.{format_of, kernel_text}}
+use Rattle.kernel_text.specs.{Members.{kernel_members}, declared.member.Member.{Member}}
+use Rattle.relation_fields.specs.declared.packages.Home.{Home}
+use Rattle.relation_fields.specs.declared.packages.PackageFacts.{PackageFacts}
 use Rattle.repo_model.specs.Repository.{suite_repository}
-use Rattle.row_book.specs.{Flattening.{packages}, Repository.{Repository}, Rounds.{kernel, kernel_class, kernel_held}}
+use Rattle.row_book.specs.{Flattening.{packages}, Repository.{Repository}}
+use Rattle.row_book.specs.Rounds.{kernel, kernel_class, kernel_held}
 
 -- a repository of classes, for each package its class, whether classes may be held, and those that
 -- are

@@ -1,13 +1,17 @@
 -- The command that prints the kernel of an index.
-use Rattle.std.specs.Prelude.{◌≡◌, ℕ, ◌<◌, Bool, true, false, List, length, Option, Some, None, Ok, Err}
+use Rattle.std.specs.Prelude.{◌≡◌, ℕ, ◌<◌, Bool, true, false, List, length, Option, Some, None, Ok}
+use Rattle.std.specs.Prelude.{Err}
 use Rattle.clause_pool.specs.Interned.{Interned}
 use Rattle.kernel_rounds.specs.declared.extraction.Kernel.{Kernel}
 use Rattle.relation_fields.specs.declared.packages.PackageFacts.{PackageFacts}
 use Rattle.row_book.specs.{Book.{Sound, repository_of}, Rounds.{PassedRound, limit_at}}
 use Rattle.listed.specs.Lists.{In}
-use Rattle.coinst_run.specs.{declared.answer.Cause.TheVariants.{ClauseLimit}, declared.answer.ReportVerdict.TheVariants.{Done}}
-use Rattle.coinst_run.specs.{Answer.{CourseStage, reported, refused}, Course.{Course, answers, then_on}, Index.{Index, reads_index}}
-use Rattle.coinst_run.specs.{IndexKernel.{ClassedKernel, index_kernel, json_for, text_for}, Lines.{limit_line}}
+use Rattle.coinst_run.specs.declared.answer.Cause.TheVariants.{ClauseLimit}
+use Rattle.coinst_run.specs.declared.answer.ReportVerdict.TheVariants.{Done}
+use Rattle.coinst_run.specs.Answer.{CourseStage, reported, refused}
+use Rattle.coinst_run.specs.{Course.{Course, answers, then_on}, Index.{Index, reads_index}}
+use Rattle.coinst_run.specs.IndexKernel.{ClassedKernel, index_kernel, json_for, text_for}
+use Rattle.coinst_run.specs.Lines.{limit_line}
 use Rattle.repo_model.specs.{Repository.{suite_repository}, Stanzas.{stanza_at}}
 
 -- the kernel of an index at a limit, with hold or without, by the round that passes the clause

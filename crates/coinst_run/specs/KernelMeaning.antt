@@ -3,9 +3,12 @@ use Rattle.std.specs.Prelude.{◌≡◌, ℕ, ◌<◌, Bool, ◌↔◌, List, le
 use Rattle.claims.specs.Classes.{classes_of, IsItsClass}
 use Rattle.suite_compare.specs.Refusals.{home_in, packages_in}
 use Rattle.coinst_run.specs.IndexKernel.{index_kernel, members_for}
-use Rattle.kernel_text.specs.{KernelReads.{HasOneReading, KernelReads}, KernelText.{format_of}, declared.member.Member.{Member}}
-use Rattle.repo_model.specs.{FirstFault.{first_fault}, Repository.{suite_repository}, Stanzas.{stanza_at, CoinstStanzas}}
-use Rattle.row_book.specs.{Repository.{Repository, Coinst}, Rounds.{kernel, kernel_held}, Sets.{NumSet, Is}}
+use Rattle.kernel_text.specs.{KernelReads.{HasOneReading, KernelReads}, KernelText.{format_of}}
+use Rattle.kernel_text.specs.declared.member.Member.{Member}
+use Rattle.repo_model.specs.{FirstFault.{first_fault}, Repository.{suite_repository}}
+use Rattle.repo_model.specs.Stanzas.{stanza_at, CoinstStanzas}
+use Rattle.row_book.specs.{Repository.{Repository, Coinst}, Rounds.{kernel, kernel_held}}
+use Rattle.row_book.specs.Sets.{NumSet, Is}
 
 -- The text is an index without a fault. The printed bytes read, by the grammar of the formats, for
 -- exactly one format, repository, list of members and list of held classes. These are the kernel of

@@ -5,7 +5,11 @@ use Rattle.relation_fields.specs.declared.packages.PackageFacts.{PackageFacts}
 use Rattle.stanza_reader.specs.declared.fault.StanzaFault.{StanzaFault}
 use Rattle.stanza_reader.specs.declared.fault.StanzaFault.TheVariants as shape
 use Rattle.repo_model.specs.declared.fault.IndexFault.{IndexFault}
-use Rattle.repo_model.specs.declared.fault.IndexFault.TheVariants.{Stanza, MissingPackage, MissingVersion, BadPackage, BadVersion, BadArchitecture, BadRelation, Duplicate, Mixed, TooMany, Memory}
+use Rattle.repo_model.specs.declared.fault.IndexFault.TheVariants.{Stanza, MissingPackage}
+use Rattle.repo_model.specs.declared.fault.IndexFault.TheVariants.{MissingVersion, BadPackage}
+use Rattle.repo_model.specs.declared.fault.IndexFault.TheVariants.{BadVersion, BadArchitecture}
+use Rattle.repo_model.specs.declared.fault.IndexFault.TheVariants.{BadRelation, Duplicate, Mixed}
+use Rattle.repo_model.specs.declared.fault.IndexFault.TheVariants.{TooMany, Memory}
 
 -- a text and the line feed that ends its line
 abbrev pub line_of_text : List ℕ → List ℕ

@@ -2,17 +2,24 @@
 -- for the files that were read.
 use Rattle.std.specs.Prelude.{◌≡◌, ℕ, Bool, true, false, List, [], ◌∷◌, Option, Some, None}
 use Rattle.suite_compare.specs.Refusals.{home_in, packages_in}
-use Rattle.coinst_run.specs.{IndexKernel.{index_kernel}, Sample.{sample_limit, size_report, sample_course}, declared.answer.ReportVerdict.{ReportVerdict}}
-use Rattle.coinst_run.specs.{declared.answer.ReportVerdict.TheVariants.{Done}, ExplainMeaning.{ExplainMeans}, MigrateMeaning.{MigrateMeans}}
-use Rattle.coinst_run.specs.{QueryMeaning.{QueryMeans}, StoredMeaning.{StoredMeans}, SystemMeaning.{SystemMeans}, CompareMeaning.{CompareMeans}}
-use Rattle.coinst_run.specs.{KernelMeaning.{KernelMeans}, Compare.{compare_course}, Explain.{explain_course}, Kernel.{kernel_course}, Query.{query_course}}
-use Rattle.coinst_run.specs.{Migrate.{migrate_course}, StoredQuery.{stored_query_course}, SystemStatus.{status_course}, Course.{Course}}
+use Rattle.coinst_run.specs.IndexKernel.{index_kernel}
+use Rattle.coinst_run.specs.Sample.{sample_limit, size_report, sample_course}
+use Rattle.coinst_run.specs.declared.answer.ReportVerdict.{ReportVerdict}
+use Rattle.coinst_run.specs.declared.answer.ReportVerdict.TheVariants.{Done}
+use Rattle.coinst_run.specs.{ExplainMeaning.{ExplainMeans}, MigrateMeaning.{MigrateMeans}}
+use Rattle.coinst_run.specs.{QueryMeaning.{QueryMeans}, StoredMeaning.{StoredMeans}}
+use Rattle.coinst_run.specs.{SystemMeaning.{SystemMeans}, CompareMeaning.{CompareMeans}}
+use Rattle.coinst_run.specs.{KernelMeaning.{KernelMeans}, Compare.{compare_course}}
+use Rattle.coinst_run.specs.{Explain.{explain_course}, Kernel.{kernel_course}, Query.{query_course}}
+use Rattle.coinst_run.specs.{Migrate.{migrate_course}, StoredQuery.{stored_query_course}}
+use Rattle.coinst_run.specs.{SystemStatus.{status_course}, Course.{Course}}
 use Rattle.coinst_run.specs.Outcome.{Outcome, not_a_command, outcome_over}
 use Rattle.sample_suite.specs.SampleText.{sample_text}
 use Rattle.kernel_text.specs.{KernelJson.{kernel_json}, KernelText.{format_of}}
 use Rattle.repo_model.specs.FirstFault.{first_fault}
 use Rattle.coinst_words.specs.{Jobs.{job_of}, declared.job.Job.{Job}}
-use Rattle.coinst_words.specs.declared.job.Job.TheVariants.{Kernel, Query, StoredQuery, Compare, Explain, Status, Migrate, Sample}
+use Rattle.coinst_words.specs.declared.job.Job.TheVariants.{Kernel, Query, StoredQuery, Compare}
+use Rattle.coinst_words.specs.declared.job.Job.TheVariants.{Explain, Status, Migrate, Sample}
 use Rattle.byte_flow.specs.{Flow.{Files}, History.{OpenedFile}}
 
 -- the course of each command

@@ -1,10 +1,16 @@
 -- The command that takes names over from a newer index into an older one, without breaking any.
 use Rattle.std.specs.Prelude.{ℕ, Bool, List, ◌++◌, codes, Option, Some, None, Ok, Err}
-use Rattle.migrate_plan.specs.{Plan.{Settings, plan, plan_settings}, Refusals.{plan_refusal}, declared.plan.PlanLine.{PlanLine}}
-use Rattle.migrate_plan.specs.{declared.refusals.PlanError.{PlanError}, declared.refusals.PlanError.TheVariants.{Homes, Names, Packages, TooLong, Memory}}
-use Rattle.coinst_run.specs.{declared.answer.Cause.TheVariants.{Content, TooLarge}, Answer.{Answer, CourseStage, refused, reported}}
-use Rattle.coinst_run.specs.{Course.{Course, answers, reads, then_on}, Index.{Index, checked_index}, IndexKernel.{ClassedKernel}, Kernel.{kernel_of}}
-use Rattle.coinst_run.specs.{Lines.{about, memory_line, too_long_line}, MigrateText.{plan_text, plan_verdict}}
+use Rattle.migrate_plan.specs.{Plan.{Settings, plan, plan_settings}, Refusals.{plan_refusal}}
+use Rattle.migrate_plan.specs.declared.plan.PlanLine.{PlanLine}
+use Rattle.migrate_plan.specs.declared.refusals.PlanError.{PlanError}
+use Rattle.migrate_plan.specs.declared.refusals.PlanError.TheVariants.{Homes, Names, Packages}
+use Rattle.migrate_plan.specs.declared.refusals.PlanError.TheVariants.{TooLong, Memory}
+use Rattle.coinst_run.specs.declared.answer.Cause.TheVariants.{Content, TooLarge}
+use Rattle.coinst_run.specs.Answer.{Answer, CourseStage, refused, reported}
+use Rattle.coinst_run.specs.{Course.{Course, answers, reads, then_on}, Index.{Index, checked_index}}
+use Rattle.coinst_run.specs.{IndexKernel.{ClassedKernel}, Kernel.{kernel_of}}
+use Rattle.coinst_run.specs.Lines.{about, memory_line, too_long_line}
+use Rattle.coinst_run.specs.MigrateText.{plan_text, plan_verdict}
 
 -- the two have different architectures
 abbrev pub homes_line : List ℕ → List ℕ → List ℕ

@@ -1,11 +1,13 @@
 -- What the report on a plan means for the two indexes.
 use Rattle.std.specs.Prelude.{◌≡◌, ℕ, Bool, List, [], map, None, Some, ◌∷◌}
 use Rattle.byte_flow.specs.History.{OpenedFile}
-use Rattle.migrate_plan.specs.{Differing.{differing}, Plan.{plan_settings}, Promises.{AreRight, MixesAreIndexes, TakesSafely, planned_name}}
+use Rattle.migrate_plan.specs.{Differing.{differing}, Plan.{plan_settings}}
+use Rattle.migrate_plan.specs.Promises.{AreRight, MixesAreIndexes, TakesSafely, planned_name}
 use Rattle.migrate_plan.specs.{Refusals.{plan_refusal}, declared.plan.PlanLine.{PlanLine}}
 use Rattle.repo_model.specs.{FirstFault.{first_fault}, declared.goals.Goal.{Goal}}
 use Rattle.suite_compare.specs.{Asking.{HasVerdict, verdict_in}, Refusals.{home_in, packages_in}}
-use Rattle.coinst_run.specs.{declared.answer.ReportVerdict.{ReportVerdict}, Answer.{reported}, Migrate.{migrate_course}, MigrateText.{plan_text, plan_verdict}}
+use Rattle.coinst_run.specs.{declared.answer.ReportVerdict.{ReportVerdict}, Answer.{reported}}
+use Rattle.coinst_run.specs.{Migrate.{migrate_course}, MigrateText.{plan_text, plan_verdict}}
 use Rattle.coinst_run.specs.Outcome.{GivesAnswer}
 
 -- Both texts are indexes without a fault, a plan may be made of them, and every mix of names that

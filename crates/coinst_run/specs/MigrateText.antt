@@ -1,8 +1,12 @@
 -- The text of a plan.
-use Rattle.std.specs.{Prelude.{ℕ, Bool, true, false, not, List, ◌++◌, codes, filter, length, if◌then◌else◌}, List.{flat_map, list_any}}
-use Rattle.migrate_plan.specs.{declared.plan.PlanLine.{PlanLine}, declared.plan.PlanLine.TheVariants.{Take, LeftLimit, LeftLine}}
-use Rattle.coinst_run.specs.{declared.answer.ReportVerdict.{ReportVerdict}, declared.answer.ReportVerdict.TheVariants.{Done, Negative, Undecided}}
-use Rattle.coinst_run.specs.{CompareText.{comparison_line}, Lines.{end_text, pair_text, single_text}}
+use Rattle.std.specs.Prelude.{ℕ, Bool, true, false, not, List, ◌++◌, codes, filter, length}
+use Rattle.std.specs.{Prelude.{if◌then◌else◌}, List.{flat_map, list_any}}
+use Rattle.migrate_plan.specs.declared.plan.PlanLine.{PlanLine}
+use Rattle.migrate_plan.specs.declared.plan.PlanLine.TheVariants.{Take, LeftLimit, LeftLine}
+use Rattle.coinst_run.specs.declared.answer.ReportVerdict.{ReportVerdict}
+use Rattle.coinst_run.specs.declared.answer.ReportVerdict.TheVariants.{Done, Negative, Undecided}
+use Rattle.coinst_run.specs.CompareText.{comparison_line}
+use Rattle.coinst_run.specs.Lines.{end_text, pair_text, single_text}
 use Rattle.suite_compare.specs.Listing.{is_broken}
 
 -- a name that is taken; one that is left since the limit is passed; and one that is left with a

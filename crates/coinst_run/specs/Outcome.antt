@@ -5,8 +5,11 @@ use Rattle.std.specs.Prelude.{◌≤◌, ℕ, nat_lt, cond, List, [], ◌∷◌,
 use Rattle.repo_model.specs.Limits.{most_bytes}
 use Rattle.byte_flow.specs.{Flow.{Files}, History.{OpenedFile}}
 use Rattle.coinst_run.specs.declared.answer.Cause.TheVariants.{TooLarge as TooLargeFile}
-use Rattle.coinst_run.specs.{declared.status.Status.{Status}, declared.status.Status.TheVariants.{Words, ReadFault}, Answer.{Answer, reported, refused}}
-use Rattle.coinst_run.specs.{Course.{Course, answers, reads}, Lines.{too_long_line, unread_line, words_line}, Status.{cause_status, verdict_status}}
+use Rattle.coinst_run.specs.declared.status.Status.{Status}
+use Rattle.coinst_run.specs.declared.status.Status.TheVariants.{Words, ReadFault}
+use Rattle.coinst_run.specs.{Answer.{Answer, reported, refused}, Course.{Course, answers, reads}}
+use Rattle.coinst_run.specs.Lines.{too_long_line, unread_line, words_line}
+use Rattle.coinst_run.specs.Status.{cause_status, verdict_status}
 
 -- a command answered, or the file at a path could not be read, or the words are no command
 pub data Outcome : Type 0 where

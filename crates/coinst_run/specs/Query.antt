@@ -1,10 +1,13 @@
 -- The command that asks whether one package for each goal can be installed together.
-use Rattle.std.specs.Prelude.{ℕ, ◌-◌, nat_lt, if◌then◌else◌, List, [], slice_index_or, Option, Some, None, Bool}
+use Rattle.std.specs.Prelude.{ℕ, ◌-◌, nat_lt, if◌then◌else◌, List, [], slice_index_or, Option, Some}
+use Rattle.std.specs.Prelude.{None, Bool}
 use Rattle.repo_model.specs.{Goals.{any_version}, declared.goals.Goal.{Goal}}
 use Rattle.search_terms.specs.Tree.{Tree, failed_leaves, found_of, log_of}
 use Rattle.suite_compare.specs.{Answering.{unknown_goal}, Asking.{asked_tree, installation}}
-use Rattle.coinst_run.specs.{declared.answer.Cause.TheVariants.{UnknownGoal}, declared.answer.ReportVerdict.TheVariants.{Done, Negative, Undecided}}
-use Rattle.coinst_run.specs.{Answer.{Answer, reported, refused}, Course.{Course, answers}, Index.{Index}, IndexKernel.{ClassedKernel}, Kernel.{reads_kernel}}
+use Rattle.coinst_run.specs.declared.answer.Cause.TheVariants.{UnknownGoal}
+use Rattle.coinst_run.specs.declared.answer.ReportVerdict.TheVariants.{Done, Negative, Undecided}
+use Rattle.coinst_run.specs.{Answer.{Answer, reported, refused}, Course.{Course, answers}}
+use Rattle.coinst_run.specs.{Index.{Index}, IndexKernel.{ClassedKernel}, Kernel.{reads_kernel}}
 use Rattle.coinst_run.specs.QueryText.{no_text, undecided_text, unknown_line, yes_text}
 
 -- the goal of a number, counted from 1

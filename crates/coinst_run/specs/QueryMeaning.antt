@@ -1,13 +1,18 @@
 -- What the report of a query means for the index that was asked.
 use Rattle.std.specs.Prelude.{◌≡◌, ℕ, ◌<◌, ◌≤◌, Bool, List, length, Some, None, [], ◌∷◌}
 use Rattle.byte_flow.specs.History.{OpenedFile}
-use Rattle.repo_model.specs.{FirstFault.{first_fault}, Goals.{CoinstGoals, packages_named}, Repository.{suite_repository}, declared.goals.Goal.{Goal}}
+use Rattle.repo_model.specs.{FirstFault.{first_fault}, Goals.{CoinstGoals, packages_named}}
+use Rattle.repo_model.specs.{Repository.{suite_repository}, declared.goals.Goal.{Goal}}
 use Rattle.listed.specs.Lists.{Ascending, In, has}
 use Rattle.row_book.specs.Rounds.{kernel}
-use Rattle.search_terms.specs.{declared.literals.Literal.{Literal}, Derives.{Derives}, Form.{form}, Tree.{failed_leaves}}
-use Rattle.suite_compare.specs.{Answering.{Serves}, Asking.{asked_tree, images_of}, Refusals.{home_in, packages_in}}
-use Rattle.coinst_run.specs.{declared.answer.ReportVerdict.{ReportVerdict}, declared.answer.ReportVerdict.TheVariants.{Done, Negative, Undecided}}
-use Rattle.coinst_run.specs.{Answer.{reported}, Outcome.{GivesAnswer}, Query.{query_course}, QueryText.{no_text, undecided_text, yes_text}}
+use Rattle.search_terms.specs.{declared.literals.Literal.{Literal}, Derives.{Derives}, Form.{form}}
+use Rattle.search_terms.specs.Tree.{failed_leaves}
+use Rattle.suite_compare.specs.{Answering.{Serves}, Asking.{asked_tree, images_of}}
+use Rattle.suite_compare.specs.Refusals.{home_in, packages_in}
+use Rattle.coinst_run.specs.declared.answer.ReportVerdict.{ReportVerdict}
+use Rattle.coinst_run.specs.declared.answer.ReportVerdict.TheVariants.{Done, Negative, Undecided}
+use Rattle.coinst_run.specs.{Answer.{reported}, Outcome.{GivesAnswer}, Query.{query_course}}
+use Rattle.coinst_run.specs.QueryText.{no_text, undecided_text, yes_text}
 
 -- The printed packages, which no other ones are printed as, are in file order, and are a healthy
 -- set of stanzas that has a package for each goal.

@@ -1,5 +1,6 @@
 -- The texts of a query: its reports, and the line of a goal that names no package.
-use Rattle.std.specs.{Prelude.{ℕ, List, [], ◌++◌, codes, if◌then◌else◌, Option, Some, None}, Fmt.{decimal}, List.{flat_map}}
+use Rattle.std.specs.Prelude.{ℕ, List, [], ◌++◌, codes, if◌then◌else◌, Option, Some, None}
+use Rattle.std.specs.{Fmt.{decimal}, List.{flat_map}}
 use Rattle.relation_fields.specs.declared.packages.PackageFacts.{PackageFacts}
 use Rattle.repo_model.specs.{declared.goals.Goal.{Goal}, Stanzas.{stanza_at}}
 use Rattle.search_terms.specs.declared.literals.Literal.{Literal}

@@ -1,11 +1,17 @@
 -- What a run read, file by file, and what it printed: on any shelf and into any sink, also over
 -- real files and streams.
-use Rattle.std.specs.{Prelude.{◌≡◌, ℕ, List, [], ◌∷◌, ◌++◌, Option, IfSome, ⊤, Some}, Io.KnownBytes.{Appends}}
-use Rattle.byte_flow.specs.{Flow.{Files}, History.{OpenedFile, noted}, Models.{ShelfModel, SinkModel}, Transfer.{HandsOver, Sent}}
+use Rattle.std.specs.Prelude.{◌≡◌, ℕ, List, [], ◌∷◌, ◌++◌, Option, IfSome, ⊤, Some}
+use Rattle.std.specs.Io.KnownBytes.{Appends}
+use Rattle.byte_flow.specs.{Flow.{Files}, History.{OpenedFile, noted}}
+use Rattle.byte_flow.specs.{Models.{ShelfModel, SinkModel}, Transfer.{HandsOver, Sent}}
 use Rattle.coinst_words.specs.{Jobs.{job_of}, declared.job.Job.{Job}}
-use Rattle.coinst_run.specs.{declared.answer.Cause.{Cause}, declared.answer.Cause.TheVariants.{Content, ClauseLimit, UnknownGoal, TooLarge}}
-use Rattle.coinst_run.specs.{declared.answer.ReportVerdict.{ReportVerdict}, declared.status.Status.{Status}, Status.{code_of, verdict_status}, Answer.{refused}}
-use Rattle.coinst_run.specs.{Meaning.{course_of}, Outcome.{GivesAnswer, file_limit}}
+use Rattle.coinst_run.specs.declared.answer.Cause.{Cause}
+use Rattle.coinst_run.specs.declared.answer.Cause.TheVariants.{Content, ClauseLimit, UnknownGoal}
+use Rattle.coinst_run.specs.declared.answer.Cause.TheVariants.{TooLarge}
+use Rattle.coinst_run.specs.declared.answer.ReportVerdict.{ReportVerdict}
+use Rattle.coinst_run.specs.{declared.status.Status.{Status}, Status.{code_of, verdict_status}}
+use Rattle.coinst_run.specs.{Answer.{refused}, Meaning.{course_of}}
+use Rattle.coinst_run.specs.Outcome.{GivesAnswer, file_limit}
 
 -- These files were read one after another, each whole, by these calls of the shelf and no others.
 -- Each is a path, and the text that the reads of its reading handed over.

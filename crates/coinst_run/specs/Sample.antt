@@ -1,10 +1,13 @@
 -- The command that extracts the kernel of a sample suite, and prints its size.
 use Rattle.std.specs.Prelude.{ℕ, false, List, length, count_by, codes}
-use Rattle.kernel_text.specs.{KernelLines.{KernelLine}, KernelText.{format_of, kernel_lines}, LineKinds.{is_against_line, is_needs_line}}
+use Rattle.kernel_text.specs.{KernelLines.{KernelLine}, KernelText.{format_of, kernel_lines}}
+use Rattle.kernel_text.specs.LineKinds.{is_against_line, is_needs_line}
 use Rattle.relation_fields.specs.declared.packages.PackageFacts.{PackageFacts}
 use Rattle.sample_suite.specs.SampleText.{sample_text}
-use Rattle.coinst_run.specs.{declared.answer.ReportVerdict.TheVariants.{Done}, Answer.{reported}, Course.{Course, answers, then_on}}
-use Rattle.coinst_run.specs.{Index.{Index, checked_index}, IndexKernel.{ClassedKernel, members_for}, Kernel.{kernel_of}, Lines.{size_line}}
+use Rattle.coinst_run.specs.{declared.answer.ReportVerdict.TheVariants.{Done}, Answer.{reported}}
+use Rattle.coinst_run.specs.{Course.{Course, answers, then_on}, Index.{Index, checked_index}}
+use Rattle.coinst_run.specs.{IndexKernel.{ClassedKernel, members_for}, Kernel.{kernel_of}}
+use Rattle.coinst_run.specs.Lines.{size_line}
 
 -- what stands for the path of the index, which is no file; its kernel is made without hold
 abbrev pub sample_path : List ℕ

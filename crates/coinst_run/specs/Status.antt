@@ -5,7 +5,10 @@ use Rattle.coinst_run.specs.declared.answer.Cause.TheVariants as cause
 use Rattle.coinst_run.specs.declared.answer.ReportVerdict.{ReportVerdict}
 use Rattle.coinst_run.specs.declared.answer.ReportVerdict.TheVariants as verdict
 use Rattle.coinst_run.specs.declared.status.Status.{Status}
-use Rattle.coinst_run.specs.declared.status.Status.TheVariants.{Done, Negative, Words, Content, ClauseLimit, ReadFault, WriteFault, Memory, Undecided, UnknownGoal, TooLarge}
+use Rattle.coinst_run.specs.declared.status.Status.TheVariants.{Done, Negative, Words, Content}
+use Rattle.coinst_run.specs.declared.status.Status.TheVariants.{ClauseLimit, ReadFault, WriteFault}
+use Rattle.coinst_run.specs.declared.status.Status.TheVariants.{Memory, Undecided, UnknownGoal}
+use Rattle.coinst_run.specs.declared.status.Status.TheVariants.{TooLarge}
 
 abbrev pub code_of : Status → ℕ
 code_of Done = 0

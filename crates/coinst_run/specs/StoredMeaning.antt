@@ -1,14 +1,20 @@
 -- What the report of a query of a stored kernel means for the kernel that its text stands for.
 use Rattle.std.specs.Prelude.{◌≡◌, ℕ, ◌<◌, true, List, length, Some, [], ◌∷◌, ◌≤◌}
 use Rattle.byte_flow.specs.History.{OpenedFile}
-use Rattle.kernel_text.specs.{Images.{is_named_by}, KernelReads.{HasOneReading, KernelContent, KernelReads}, declared.member.Member.{Member}}
+use Rattle.kernel_text.specs.Images.{is_named_by}
+use Rattle.kernel_text.specs.KernelReads.{HasOneReading, KernelContent, KernelReads}
+use Rattle.kernel_text.specs.declared.member.Member.{Member}
 use Rattle.kernel_text.specs.Serving.{CoinstStored, ServesStored, images_in}
 use Rattle.repo_model.specs.declared.goals.Goal.{Goal}
 use Rattle.listed.specs.Lists.{Ascending, In, has}
-use Rattle.search_terms.specs.{declared.literals.Literal.{Literal}, Derives.{Derives}, Form.{form}, Tree.{failed_leaves}}
+use Rattle.search_terms.specs.{declared.literals.Literal.{Literal}, Derives.{Derives}, Form.{form}}
+use Rattle.search_terms.specs.Tree.{failed_leaves}
 use Rattle.suite_compare.specs.Asking.{tree_of}
-use Rattle.coinst_run.specs.{declared.answer.ReportVerdict.{ReportVerdict}, declared.answer.ReportVerdict.TheVariants.{Done, Negative, Undecided}}
-use Rattle.coinst_run.specs.{Answer.{reported}, Outcome.{GivesAnswer}, QueryText.{no_text, undecided_text}, StoredQuery.{listed_classes, stored_query_course}}
+use Rattle.coinst_run.specs.declared.answer.ReportVerdict.{ReportVerdict}
+use Rattle.coinst_run.specs.declared.answer.ReportVerdict.TheVariants.{Done, Negative, Undecided}
+use Rattle.coinst_run.specs.{Answer.{reported}, Outcome.{GivesAnswer}}
+use Rattle.coinst_run.specs.QueryText.{no_text, undecided_text}
+use Rattle.coinst_run.specs.StoredQuery.{listed_classes, stored_query_course}
 
 -- The goals are co-installable: the printed classes, which no other ones are printed as, are
 -- ascending and serve them.

@@ -1,13 +1,19 @@
 -- The command that asks of a stored kernel whether one package for each goal can be installed
 -- together.
-use Rattle.std.specs.{Prelude.{ℕ, List, ◌++◌, codes, filter, length, Bool, Option, Some, None, Result, Ok, Err}, List.{flat_map}}
-use Rattle.kernel_text.specs.{Images.{unknown_goal}, KernelReads.{KernelContent}, Serving.{images_in}, declared.fault.KernelFault.{KernelFault}}
-use Rattle.kernel_text.specs.{declared.fault.KernelFault.TheVariants.{Line, End, Range, Memory}, StoredReading.{stored_reading}}
+use Rattle.std.specs.Prelude.{ℕ, List, ◌++◌, codes, filter, length, Bool, Option, Some, None}
+use Rattle.std.specs.{Prelude.{Result, Ok, Err}, List.{flat_map}}
+use Rattle.kernel_text.specs.{Images.{unknown_goal}, KernelReads.{KernelContent}}
+use Rattle.kernel_text.specs.{Serving.{images_in}, declared.fault.KernelFault.{KernelFault}}
+use Rattle.kernel_text.specs.declared.fault.KernelFault.TheVariants.{Line, End, Range, Memory}
+use Rattle.kernel_text.specs.StoredReading.{stored_reading}
 use Rattle.repo_model.specs.declared.goals.Goal.{Goal}
 use Rattle.row_book.specs.{Numbers.{numbers}, Flags.{flag}}
 use Rattle.suite_compare.specs.Asking.{tree_of}
-use Rattle.coinst_run.specs.{declared.answer.Cause.TheVariants.{Content}, Answer.{Answer, CourseStage, refused}, Course.{Course, answers, reads, then_on}}
-use Rattle.coinst_run.specs.{Lines.{about, at_line, counted_line, line_of_text}, Query.{by_tree, unknown_answer}}
+use Rattle.coinst_run.specs.declared.answer.Cause.TheVariants.{Content}
+use Rattle.coinst_run.specs.Answer.{Answer, CourseStage, refused}
+use Rattle.coinst_run.specs.Course.{Course, answers, reads, then_on}
+use Rattle.coinst_run.specs.Lines.{about, at_line, counted_line, line_of_text}
+use Rattle.coinst_run.specs.Query.{by_tree, unknown_answer}
 
 -- why a text is not that of a kernel
 abbrev pub kernel_fault_text : KernelFault → List ℕ

@@ -1,12 +1,15 @@
 -- What the report on an installed system means for the status file and the index.
 use Rattle.std.specs.Prelude.{◌≡◌, ◌↔◌, ℕ, Bool, List, map, Some, None, [], ◌∷◌}
 use Rattle.byte_flow.specs.History.{OpenedFile}
-use Rattle.repo_model.specs.{FirstFault.{first_fault}, Repository.{suite_repository}, Stanzas.{HealthyStanzas}}
+use Rattle.repo_model.specs.{FirstFault.{first_fault}, Repository.{suite_repository}}
+use Rattle.repo_model.specs.Stanzas.{HealthyStanzas}
 use Rattle.suite_compare.specs.{Asking.{verdict_in}, Refusals.{home_in, packages_in}}
 use Rattle.status_check.specs.Own.{foreign_count, own_home, own_packages, status_fault}
-use Rattle.status_check.specs.{Report.{all_of, had_goals, line_for, state_of, HoldsInIndex, IsStateOf}, declared.report.OwnState.TheVariants.{Healthy}}
+use Rattle.status_check.specs.Report.{all_of, had_goals, line_for, state_of, HoldsInIndex}
+use Rattle.status_check.specs.{Report.{IsStateOf}, declared.report.OwnState.TheVariants.{Healthy}}
 use Rattle.status_check.specs.declared.report.StatusReport.{StatusReport}
-use Rattle.coinst_run.specs.{declared.answer.ReportVerdict.{ReportVerdict}, Answer.{reported}, Outcome.{GivesAnswer}, SystemStatus.{status_course}}
+use Rattle.coinst_run.specs.{declared.answer.ReportVerdict.{ReportVerdict}, Answer.{reported}}
+use Rattle.coinst_run.specs.{Outcome.{GivesAnswer}, SystemStatus.{status_course}}
 use Rattle.coinst_run.specs.SystemText.{system_text, system_verdict}
 
 -- The suite is an index without a fault, and the status file has none against its home. The printed

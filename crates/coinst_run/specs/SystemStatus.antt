@@ -1,12 +1,16 @@
 -- The command that holds an installed system against an index.
 use Rattle.std.specs.Prelude.{ℕ, Bool, List, map, Option, Some, None, Ok, Err}
-use Rattle.relation_fields.specs.{declared.packages.Home.{Home}, declared.packages.PackageFacts.{PackageFacts}}
+use Rattle.relation_fields.specs.declared.packages.Home.{Home}
+use Rattle.relation_fields.specs.declared.packages.PackageFacts.{PackageFacts}
 use Rattle.repo_model.specs.{declared.fault.IndexFault.{IndexFault}, Repository.{suite_repository}}
 use Rattle.suite_compare.specs.Asking.{verdict_in}
-use Rattle.status_check.specs.{Own.{foreign_count, own_home, own_packages, status_fault}, Report.{all_of, had_goals, line_for, state_of}, States.{set_state}}
+use Rattle.status_check.specs.Own.{foreign_count, own_home, own_packages, status_fault}
+use Rattle.status_check.specs.{Report.{all_of, had_goals, line_for, state_of}, States.{set_state}}
 use Rattle.status_check.specs.declared.report.StatusReport.{StatusReport}
-use Rattle.coinst_run.specs.{Answer.{Answer, CourseStage, reported, refused}, Course.{Course, answers, reads, then_on}, Faults.{fault_cause}, Index.{Index}}
-use Rattle.coinst_run.specs.{IndexKernel.{ClassedKernel}, Kernel.{reads_kernel}, Lines.{fault_line}, SystemText.{system_text, system_verdict}}
+use Rattle.coinst_run.specs.Answer.{Answer, CourseStage, reported, refused}
+use Rattle.coinst_run.specs.{Course.{Course, answers, reads, then_on}, Faults.{fault_cause}}
+use Rattle.coinst_run.specs.{Index.{Index}, IndexKernel.{ClassedKernel}, Kernel.{reads_kernel}}
+use Rattle.coinst_run.specs.{Lines.{fault_line}, SystemText.{system_text, system_verdict}}
 
 -- an installed system: its own packages, those of no other architecture than `all` and the home of
 -- the index, with their home, and how many others there are

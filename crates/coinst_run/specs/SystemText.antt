@@ -1,9 +1,14 @@
 -- The text of the report on an installed system.
-use Rattle.std.specs.{Prelude.{⊤, ℕ, ◌<◌, Bool, false, not, List, [], ◌++◌, codes, filter, length, if◌then◌else◌, slice_index_or}, List.{flat_map}}
-use Rattle.status_check.specs.{declared.report.HaveLine.{HaveLine}, declared.report.OwnState.{OwnState}}
-use Rattle.status_check.specs.{declared.report.OwnState.TheVariants.{Healthy, Unhit, Clash}, declared.report.StatusReport.{StatusReport}}
-use Rattle.status_check.specs.{declared.report.SuiteState.{SuiteState}, declared.report.SuiteState.TheVariants.{Yes, No, Spent}}
-use Rattle.coinst_run.specs.{declared.answer.ReportVerdict.{ReportVerdict}, declared.answer.ReportVerdict.TheVariants.{Done, Negative, Undecided}}
+use Rattle.std.specs.Prelude.{⊤, ℕ, ◌<◌, Bool, false, not, List, [], ◌++◌, codes, filter, length}
+use Rattle.std.specs.{Prelude.{if◌then◌else◌, slice_index_or}, List.{flat_map}}
+use Rattle.status_check.specs.declared.report.HaveLine.{HaveLine}
+use Rattle.status_check.specs.declared.report.OwnState.{OwnState}
+use Rattle.status_check.specs.declared.report.OwnState.TheVariants.{Healthy, Unhit, Clash}
+use Rattle.status_check.specs.declared.report.StatusReport.{StatusReport}
+use Rattle.status_check.specs.declared.report.SuiteState.{SuiteState}
+use Rattle.status_check.specs.declared.report.SuiteState.TheVariants.{Yes, No, Spent}
+use Rattle.coinst_run.specs.declared.answer.ReportVerdict.{ReportVerdict}
+use Rattle.coinst_run.specs.declared.answer.ReportVerdict.TheVariants.{Done, Negative, Undecided}
 use Rattle.coinst_run.specs.Lines.{counted_line, end_text, line_of_text, pair_text, versioned_text}
 
 -- the index has it, or lacks it

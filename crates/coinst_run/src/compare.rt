@@ -2,8 +2,10 @@
 ghost use Rattle.std.specs.Prelude.{◌≡◌, ◌<◌};
 ghost use Rattle.clause_solver.specs.Outcomes.{IsBudget};
 ghost use Rattle.coinst_words.specs.Jobs.{AreInLimits};
-ghost use Rattle.coinst_run.specs.{Compare.{broken_lines, compare_answer, compare_course, lines_answer}, Course.{answers}, Ending.{Settles, ending_of}};
-ghost use Rattle.coinst_run.specs.{Follows.{Follows}, Index.{index_of}, Kernel.{reads_kernel}};
+ghost use Rattle.coinst_run.specs.Compare.{broken_lines, compare_answer, compare_course};
+ghost use Rattle.coinst_run.specs.{Compare.{lines_answer}, Course.{answers}};
+ghost use Rattle.coinst_run.specs.{Ending.{Settles, ending_of}, Follows.{Follows}};
+ghost use Rattle.coinst_run.specs.{Index.{index_of}, Kernel.{reads_kernel}};
 
 use crate::answer::{Report, Stop};
 use crate::compare_text::{comparison_text, comparison_verdict};
@@ -19,15 +21,16 @@ pub fn compare<F: Shelf>(
     shelf: &mut F,
     old: &str,
     new: &str,
-    with: Settings,
+    settings: Settings,
 ) -> Result<Report, Stop>
-    requires { AreInLimits with }
+    requires { AreInLimits settings }
     ensures { Follows F.model
-        (compare_course old.now new.now with.budget with.clause_limit with.hold)
+        (compare_course old.now new.now settings.budget settings.clause_limit settings.hold)
         shelf.old (ending_of result) shelf.new }
 {
-    let before = view_at(alloc, shelf, old, with.clause_limit, with.hold)?;
-    let report = against_newer(alloc, shelf, &before, new, with.budget);
+    let before = view_at(alloc, shelf, old, settings.clause_limit, settings.hold)?;
+    let report = against_newer(alloc, shelf, &before, new, settings.budget);
+    // Its one end: a proof follows each field at every end of the body that owns it.
     drop(before);
     report
 }
@@ -49,6 +52,7 @@ fn against_newer<F: Shelf>(
 {
     let after = view_at(alloc, shelf, new, old.limit, old.kernel.hold)?;
     let report = comparison(alloc, old, &after, budget);
+    // Its one end: a proof follows each field at every end of the body that owns it.
     drop(after);
     report
 }

@@ -1,7 +1,8 @@
 //! The report of a comparison, made whole in memory.
 ghost use Rattle.std.specs.{Prelude.{◌≡◌, ◌++◌, IfOk, OnOk, filter, length}, List.{list_any}};
-ghost use Rattle.coinst_run.specs.CompareText.{comparison_line, comparison_text, comparison_verdict, is_open_line};
-ghost use Rattle.suite_compare.specs.Listing.{is_broken};
+ghost use Rattle.coinst_run.specs.CompareText.{comparison_line, comparison_text};
+ghost use Rattle.coinst_run.specs.CompareText.{comparison_verdict};
+ghost use Rattle.suite_compare.specs.Listing.{is_broken, says_open};
 
 use crate::answer::ReportVerdict;
 use crate::lines::{Made, Put, push_end, push_pair, push_single};
@@ -47,13 +48,23 @@ fn count_broken(lines: &[ReportLine]) -> usize
     count
 }
 
+// Whether the line says that something is open.
+fn is_open(line: &ReportLine) -> bool
+    ensures { result ≡ says_open line.now }
+{
+    match line {
+        ReportLine::Open1 { .. } | ReportLine::Open2 { .. } => true,
+        ReportLine::Broken1 { .. } | ReportLine::Broken2 { .. } => false,
+    }
+}
+
 // How many lines say that something is open.
 fn count_open(lines: &[ReportLine]) -> usize
-    ensures { result ≡ length (filter is_open_line lines.now) }
+    ensures { result ≡ length (filter says_open lines.now) }
 {
     let mut count = 0;
     for line in lines {
-        if !is_broken(line) {
+        if is_open(line) {
             count += 1;
         }
     }
@@ -61,7 +72,7 @@ fn count_open(lines: &[ReportLine]) -> usize
 }
 
 /// The text of the lines of a comparison.
-#[tactic(auto, unfolding(crate::specs::CompareText::comparison_text, crate::specs::CompareText::end_text))]
+#[tactic(auto, unfolding(crate::specs::CompareText::comparison_text, crate::specs::end_text))]
 pub(crate) fn comparison_text(alloc: Global, lines: &[ReportLine]) -> Made
     ensures { IfOk result (λ text. text.items ≡ comparison_text lines.now) }
 {
@@ -82,9 +93,9 @@ fn has_broken(lines: &[ReportLine]) -> bool
 
 // Whether some line says that something is open.
 fn has_open(lines: &[ReportLine]) -> bool
-    ensures { result ≡ list_any is_open_line lines.now }
+    ensures { result ≡ list_any says_open lines.now }
 {
-    lines.iter().any(|line| !is_broken(line))
+    lines.iter().any(|line| is_open(line))
 }
 
 /// What the lines of a comparison say as a whole.

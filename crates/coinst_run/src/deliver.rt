@@ -1,6 +1,7 @@
 //! An answer handed out: the report to one sink or a line to the other, and the status.
 ghost use Rattle.std.specs.{Prelude.{◌≡◌, ◌≤◌, ◌++◌, [], codes, take}, List.{flat_map}};
-ghost use Rattle.coinst_run.specs.{Delivers.{Delivers, IsRefused, Tells}, Ending.{ending_of, stop_ending}};
+ghost use Rattle.coinst_run.specs.Delivers.{Delivers, IsRefused, Tells};
+ghost use Rattle.coinst_run.specs.Ending.{ending_of, stop_ending};
 ghost use Rattle.coinst_run.specs.Lines.{cut_line, memory_line, unread_line, words_line};
 
 use crate::answer::{Report, Stop};

@@ -2,7 +2,8 @@
 ghost use Rattle.std.specs.Prelude.{length};
 ghost use Rattle.clause_solver.specs.Outcomes.{IsBudget};
 ghost use Rattle.coinst_words.specs.Jobs.{AreInLimits};
-ghost use Rattle.coinst_run.specs.{Course.{answers}, Ending.{Settles, ending_of}, Explain.{explain_course, explanation_answer, goals_explained}};
+ghost use Rattle.coinst_run.specs.{Course.{answers}, Ending.{Settles, ending_of}};
+ghost use Rattle.coinst_run.specs.Explain.{explain_course, explanation_answer, goals_explained};
 ghost use Rattle.coinst_run.specs.{Follows.{Follows}, Index.{index_of}};
 ghost use Rattle.explain_core.specs.OnStanzas.{IsTellable};
 
@@ -25,15 +26,16 @@ pub fn explain<F: Shelf>(
     shelf: &mut F,
     path: &str,
     goals: &[Goal],
-    with: Settings,
+    settings: Settings,
 ) -> Result<Report, Stop>
-    requires { AreInLimits with }
+    requires { AreInLimits settings }
     ensures { Follows F.model
-        (explain_course path.now goals.now with.budget with.clause_limit with.hold)
+        (explain_course path.now goals.now settings.budget settings.clause_limit settings.hold)
         shelf.old (ending_of result) shelf.new }
 {
-    let view = view_at(alloc, shelf, path, with.clause_limit, with.hold)?;
-    let report = explain_goals(alloc, &view, goals, with.budget);
+    let view = view_at(alloc, shelf, path, settings.clause_limit, settings.hold)?;
+    let report = explain_goals(alloc, &view, goals, settings.budget);
+    // Its one end: a proof follows each field at every end of the body that owns it.
     drop(view);
     report
 }

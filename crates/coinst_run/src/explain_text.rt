@@ -1,7 +1,8 @@
 //! The report of an explanation, made whole in memory.
 ghost use Rattle.std.specs.{Prelude.{◌≡◌, ◌++◌, IfOk, IfSome, OnOk, length}, List.{flat_map}};
 ghost use Rattle.explain_core.specs.{Picking.{ArePlacesFrom1}, OnStanzas.{AreClashesOf}};
-ghost use Rattle.coinst_run.specs.ExplainText.{clash_count, clash_line, clash_text, clashes_text, core_text, goal_line, goal_text};
+ghost use Rattle.coinst_run.specs.ExplainText.{clash_count, clash_line, clash_text, clashes_text};
+ghost use Rattle.coinst_run.specs.ExplainText.{core_text, goal_line, goal_text};
 
 use crate::lines::{Made, Put, push_end, push_versioned};
 use crate::query::goal_of_number;
@@ -12,7 +13,7 @@ use repo_model::Goal;
 use std::alloc::Global;
 
 // Appends the line of a goal that matters, or may matter.
-#[tactic(auto, using(std::proofs::Common::append_assoc))]
+#[tactic(auto, using(crate::proofs::append_assoc))]
 fn push_goal(out: &mut Vec<u8>, goal: &Goal, unsettled: bool) -> Put
     ensures { OnOk result (out.new.items ≡ out.old.items ++ goal_text unsettled goal.now) }
 {
@@ -38,7 +39,7 @@ fn push_goals(out: &mut Vec<u8>, goals: &[Goal], marks: &[Mark]) -> Put
 }
 
 // Appends the line of two packages whose conflict matters, or may matter.
-#[tactic(auto, using(std::proofs::Common::append_assoc))]
+#[tactic(auto, using(crate::proofs::append_assoc))]
 fn push_clash(
     out: &mut Vec<u8>,
     first: &PackageFacts,
@@ -98,7 +99,7 @@ fn clash_count(clashes: &Option<ClashList>) -> usize
 }
 
 /// The goals that matter and the conflicts that do.
-#[tactic(auto, using(std::proofs::Common::append_assoc), unfolding(crate::specs::ExplainText::core_text))]
+#[tactic(auto, using(crate::proofs::append_assoc), unfolding(crate::specs::ExplainText::core_text))]
 pub(crate) fn core_text(
     alloc: Global,
     packages: &[PackageFacts],

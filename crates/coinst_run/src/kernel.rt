@@ -2,7 +2,8 @@
 ghost use Rattle.std.specs.Prelude.{◌≡◌, IfOk};
 ghost use Rattle.coinst_words.specs.Jobs.{AreInLimits};
 ghost use Rattle.repo_model.specs.Facts.{AreNamedPackages};
-ghost use Rattle.coinst_run.specs.{Ending.{Settles, ending_of}, Follows.{Follows}, Index.{index_of}, IndexKernel.{index_kernel}};
+ghost use Rattle.coinst_run.specs.{Ending.{Settles, ending_of}, Follows.{Follows}};
+ghost use Rattle.coinst_run.specs.{Index.{index_of}, IndexKernel.{index_kernel}};
 ghost use Rattle.coinst_run.specs.Kernel.{kernel_answer, kernel_course, printed_kernel};
 
 use crate::answer::{Report, ReportVerdict, Stop};
@@ -20,14 +21,16 @@ pub fn kernel<F: Shelf>(
     shelf: &mut F,
     path: &str,
     json: bool,
-    with: Settings,
+    settings: Settings,
 ) -> Result<Report, Stop>
-    requires { AreInLimits with }
-    ensures { Follows F.model (kernel_course path.now json with.clause_limit with.hold) shelf.old
+    requires { AreInLimits settings }
+    ensures { Follows F.model
+        (kernel_course path.now json settings.clause_limit settings.hold) shelf.old
         (ending_of result) shelf.new }
 {
-    let view = view_at(alloc, shelf, path, with.clause_limit, with.hold)?;
+    let view = view_at(alloc, shelf, path, settings.clause_limit, settings.hold)?;
     let report = kernel_report(alloc, &view, json);
+    // Its one end: a proof follows each field at every end of the body that owns it.
     drop(view);
     report
 }

@@ -1,6 +1,8 @@
 //! The lines of reports and the lines about a file, put together in memory.
 ghost use Rattle.std.specs.{Prelude.{◌≡◌, ◌++◌, IfOk, OnOk}, Fmt.{decimal}};
-ghost use Rattle.coinst_run.specs.Lines.{about, at_line, counted_line, end_text, fault_line, fault_text, pair_text, row_text, shape_text, single_text, size_line, stage_text, too_long_line, versioned_text};
+ghost use Rattle.coinst_run.specs.Lines.{about, at_line, counted_line, end_text, fault_line};
+ghost use Rattle.coinst_run.specs.Lines.{fault_text, pair_text, row_text, shape_text, single_text};
+ghost use Rattle.coinst_run.specs.Lines.{size_line, stage_text, too_long_line, versioned_text};
 
 use itoa::Buffer;
 use repo_model::IndexFault;

@@ -2,11 +2,14 @@
 ghost use Rattle.std.specs.Prelude.{◌≡◌, ◌<◌, ◌≤◌, ℕ, List, Option, IfOk, length};
 ghost use Rattle.clause_solver.specs.Outcomes.{IsBudget};
 ghost use Rattle.coinst_words.specs.Jobs.{AreInLimits};
-ghost use Rattle.migrate_plan.specs.{Indexes.{AreMeasured, Texts}, Plan.{plan_settings}, Refusals.{RefusesPlan}, declared.plan.PlanLine.{PlanLine}};
+ghost use Rattle.migrate_plan.specs.{Indexes.{AreMeasured, Texts}, Plan.{plan_settings}};
+ghost use Rattle.migrate_plan.specs.{Refusals.{RefusesPlan}, declared.plan.PlanLine.{PlanLine}};
 ghost use Rattle.migrate_plan.specs.declared.refusals.PlanError.{PlanError};
 ghost use Rattle.repo_model.specs.{Feeding.{IsSuiteOf}, Limits.{most_bytes}};
-ghost use Rattle.coinst_run.specs.{Ending.{Settles, StopsAt, ending_of, stop_ending}, Follows.{Follows}};
-ghost use Rattle.coinst_run.specs.Migrate.{by_refusal, homes_line, migrate_course, new_course, plan_answer};
+ghost use Rattle.coinst_run.specs.Ending.{Settles, StopsAt, ending_of, stop_ending};
+ghost use Rattle.coinst_run.specs.Follows.{Follows};
+ghost use Rattle.coinst_run.specs.Migrate.{by_refusal, homes_line, migrate_course, new_course};
+ghost use Rattle.coinst_run.specs.Migrate.{plan_answer};
 
 use crate::answer::{Cause, Report, Stop};
 use crate::lines::{Made, line_about, too_long_line};
@@ -27,17 +30,18 @@ pub fn migrate<F: Shelf>(
     shelf: &mut F,
     old: &str,
     new: &str,
-    with: Settings,
+    settings: Settings,
 ) -> Result<Report, Stop>
-    requires { AreInLimits with }
+    requires { AreInLimits settings }
     ensures { Follows F.model
-        (migrate_course old.now new.now with.budget with.clause_limit with.hold)
+        (migrate_course old.now new.now settings.budget settings.clause_limit settings.hold)
         shelf.old (ending_of result) shelf.new }
 {
     let older = measured_at(alloc, shelf, old)?;
     let MeasuredIndex { suite, length } = older;
-    let view = view_of(alloc, suite, old, with.clause_limit, with.hold)?;
-    let report = with_newer(alloc, shelf, &view, length, old, new, with.budget);
+    let view = view_of(alloc, suite, old, settings.clause_limit, settings.hold)?;
+    let report = with_newer(alloc, shelf, &view, length, old, new, settings.budget);
+    // Its one end: a proof follows each field at every end of the body that owns it.
     drop(view);
     report
 }
@@ -67,6 +71,7 @@ fn with_newer<F: Shelf>(
         new: newer.length,
     };
     let report = plan_report(alloc, view, &newer.suite, lengths, old, new, budget);
+    // Its one end: a proof follows each field at every end of the body that owns it.
     drop(newer);
     report
 }

@@ -1,6 +1,9 @@
 //! The report on a plan, made whole in memory.
-ghost use Rattle.std.specs.{Prelude.{◌≡◌, ◌++◌, IfOk, OnOk, codes, filter, length}, List.{list_any}};
-ghost use Rattle.coinst_run.specs.{CompareText.{comparison_line}, MigrateText.{is_not_taken, is_take, plan_line, plan_text, plan_verdict, would_break}};
+ghost use Rattle.std.specs.Prelude.{◌≡◌, ◌++◌, IfOk, OnOk, codes, filter, length};
+ghost use Rattle.std.specs.List.{list_any};
+ghost use Rattle.coinst_run.specs.CompareText.{comparison_line};
+ghost use Rattle.coinst_run.specs.MigrateText.{is_not_taken, is_take, plan_line, plan_text};
+ghost use Rattle.coinst_run.specs.MigrateText.{plan_verdict, would_break};
 
 use crate::answer::ReportVerdict;
 use crate::compare_text::{is_broken, push_line};

@@ -2,8 +2,10 @@
 ghost use Rattle.std.specs.Prelude.{◌≡◌, ◌<◌, ◌≤◌, IfSome, length};
 ghost use Rattle.clause_solver.specs.Outcomes.{IsBudget};
 ghost use Rattle.coinst_words.specs.Jobs.{AreInLimits};
-ghost use Rattle.coinst_run.specs.{Course.{answers}, Ending.{Settles, ending_of, stop_ending}, Follows.{Follows}, Index.{index_of}, Outcome.{answered}};
-ghost use Rattle.coinst_run.specs.Query.{goal_of_number, goals_answer, query_course, unknown_answer};
+ghost use Rattle.coinst_run.specs.{Course.{answers}, Ending.{Settles, ending_of, stop_ending}};
+ghost use Rattle.coinst_run.specs.{Follows.{Follows}, Index.{index_of}, Outcome.{answered}};
+ghost use Rattle.coinst_run.specs.Query.{goal_of_number, goals_answer, query_course};
+ghost use Rattle.coinst_run.specs.Query.{unknown_answer};
 
 use crate::answer::{Cause, Report, ReportVerdict, Stop};
 use crate::query_text::{no_text, undecided_text, unknown_line, yes_text};
@@ -20,15 +22,16 @@ pub fn query<F: Shelf>(
     shelf: &mut F,
     path: &str,
     goals: &[Goal],
-    with: Settings,
+    settings: Settings,
 ) -> Result<Report, Stop>
-    requires { AreInLimits with }
+    requires { AreInLimits settings }
     ensures { Follows F.model
-        (query_course path.now goals.now with.budget with.clause_limit with.hold)
+        (query_course path.now goals.now settings.budget settings.clause_limit settings.hold)
         shelf.old (ending_of result) shelf.new }
 {
-    let view = view_at(alloc, shelf, path, with.clause_limit, with.hold)?;
-    let report = goals_report(alloc, &view, goals, with.budget);
+    let view = view_at(alloc, shelf, path, settings.clause_limit, settings.hold)?;
+    let report = goals_report(alloc, &view, goals, settings.budget);
+    // Its one end: a proof follows each field at every end of the body that owns it.
     drop(view);
     report
 }

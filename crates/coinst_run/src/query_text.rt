@@ -2,7 +2,9 @@
 ghost use Rattle.std.specs.{Prelude.{◌≡◌, ◌++◌, ◌<◌, ℕ, IfOk, OnOk, length}, List.{flat_map}};
 ghost use Rattle.repo_model.specs.Stanzas.{stanza_at};
 ghost use Rattle.listed.specs.Lists.{In};
-ghost use Rattle.coinst_run.specs.QueryText.{goal_word, install_line, literal_text, log_line, no_text, undecided_text, unknown_line, version_word, yes_text};
+ghost use Rattle.coinst_run.specs.QueryText.{goal_word, install_line, literal_text, log_line};
+ghost use Rattle.coinst_run.specs.QueryText.{no_text, undecided_text, unknown_line, version_word};
+ghost use Rattle.coinst_run.specs.QueryText.{yes_text};
 
 use crate::lines::{Made, Put, push_count, push_counted, push_pair};
 use deb_version::Version;
@@ -31,7 +33,7 @@ fn push_installs(out: &mut Vec<u8>, packages: &[PackageFacts], numbers: &[u32]) 
 }
 
 /// Yes, and the packages with these numbers.
-#[tactic(auto, using(std::proofs::Common::append_assoc), unfolding(crate::specs::QueryText::yes_text))]
+#[tactic(auto, using(crate::proofs::append_assoc), unfolding(crate::specs::QueryText::yes_text))]
 pub(crate) fn yes_text(alloc: Global, packages: &[PackageFacts], numbers: &[u32]) -> Made
     requires { (n : ℕ) → In n numbers.now → n < length packages.now }
     ensures { IfOk result (λ text. text.items ≡ yes_text packages.now numbers.now) }
@@ -50,7 +52,7 @@ fn push_literal(out: &mut Vec<u8>, literal: Literal) -> Put
 }
 
 // Appends the line of an entry.
-#[tactic(auto, using(std::proofs::Common::append_assoc))]
+#[tactic(auto, using(crate::proofs::append_assoc))]
 fn push_log_line(out: &mut Vec<u8>, entry: &[Literal]) -> Put
     ensures { OnOk result (out.new.items ≡ out.old.items ++ log_line entry.now) }
 {
@@ -62,7 +64,7 @@ fn push_log_line(out: &mut Vec<u8>, entry: &[Literal]) -> Put
 }
 
 /// No, and the log that shows it.
-#[tactic(auto, using(std::proofs::Common::append_assoc), unfolding(crate::specs::QueryText::no_text))]
+#[tactic(auto, using(crate::proofs::append_assoc), unfolding(crate::specs::QueryText::no_text))]
 pub(crate) fn no_text(alloc: Global, log: &Log) -> Made
     ensures { IfOk result (λ text. text.items ≡ no_text log.now.entries) }
 {
@@ -75,7 +77,7 @@ pub(crate) fn no_text(alloc: Global, log: &Log) -> Made
 }
 
 /// Undecided within the budget.
-#[tactic(auto, using(std::proofs::Common::append_assoc), unfolding(crate::specs::QueryText::undecided_text))]
+#[tactic(auto, using(crate::proofs::append_assoc), unfolding(crate::specs::undecided_text))]
 pub(crate) fn undecided_text(alloc: Global, budget: u64) -> Made
     ensures { IfOk result (λ text. text.items ≡ undecided_text budget) }
 {
@@ -98,7 +100,7 @@ fn push_version(out: &mut Vec<u8>, version: &Option<Version>) -> Put
 }
 
 /// Appends the word of a goal.
-#[tactic(auto, using(std::proofs::Common::append_assoc))]
+#[tactic(auto, using(crate::proofs::append_assoc))]
 pub(crate) fn push_goal_word(out: &mut Vec<u8>, goal: &Goal) -> Put
     ensures { OnOk result (out.new.items ≡ out.old.items ++ goal_word goal.now) }
 {
@@ -107,7 +109,7 @@ pub(crate) fn push_goal_word(out: &mut Vec<u8>, goal: &Goal) -> Put
 }
 
 /// The line of the goal of a number, counted from 1, that names no package.
-#[tactic(auto, using(std::proofs::Common::append_assoc), unfolding(crate::specs::QueryText::unknown_line))]
+#[tactic(auto, using(crate::proofs::append_assoc), unfolding(crate::specs::unknown_line))]
 pub(crate) fn unknown_line(alloc: Global, number: u64, goal: &Goal) -> Made
     ensures { IfOk result (λ line. line.items ≡ unknown_line number goal.now) }
 {

@@ -1,10 +1,13 @@
 //! The command that extracts the kernel of a suite made from a number, and prints its size.
 //!
 //! It searches nothing, so it takes no budget.
-ghost use Rattle.std.specs.Prelude.{◌≡◌, ◌<◌, ℕ, Ok, IfOk, IfErr, IfSome, filter, length, ltb, sum_by};
-ghost use Rattle.row_book.specs.{Book.{listed_for, repository_of, Sound}, Numbers.{numbers}, Repository.{clauses_of}};
+ghost use Rattle.std.specs.Prelude.{◌≡◌, ◌<◌, ℕ, Ok, IfOk, IfErr, IfSome, filter, length, ltb};
+ghost use Rattle.std.specs.Prelude.{sum_by};
+ghost use Rattle.row_book.specs.{Book.{listed_for, repository_of, Sound}, Numbers.{numbers}};
+ghost use Rattle.row_book.specs.Repository.{clauses_of};
 ghost use Rattle.sample_suite.specs.{Drawing.{IsCount}, SampleText.{sample_text}};
-ghost use Rattle.coinst_run.specs.{Ending.{Settles, StopsAt, ending_of, stop_ending}, Index.{checked_index, index_of}, IndexKernel.{index_kernel}};
+ghost use Rattle.coinst_run.specs.Ending.{Settles, StopsAt, ending_of, stop_ending};
+ghost use Rattle.coinst_run.specs.{Index.{checked_index, index_of}, IndexKernel.{index_kernel}};
 ghost use Rattle.coinst_run.specs.Sample.{sample_course, sample_path, size_report};
 
 use crate::answer::{Report, ReportVerdict, Stop};

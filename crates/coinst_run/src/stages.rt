@@ -1,9 +1,12 @@
 //! The parts of commands: a file read whole, an index checked as it is read.
 ghost use Rattle.std.specs.Prelude.{◌≡◌, ◌≤◌, ℕ, List, length, Option, Ok, IfOk, IfErr, IfSome};
-ghost use Rattle.repo_model.specs.{Facts.{AreNamedPackages}, Feed.{FeedStandsFor}, declared.fault.IndexFault.{IndexFault}, Refusals.{is_memory, Refuses}};
-ghost use Rattle.repo_model.specs.Limits.{most_bytes};
-ghost use Rattle.coinst_run.specs.{Ending.{IsReadEnding, Settles, StopsAt, stop_ending}, Course.{Course, reads}, Faults.{fault_cause}, Feeding.{WasFed}};
-ghost use Rattle.coinst_run.specs.{Held.{WasMeasured}, Follows.{Follows, ReachesIndex, WasRead}, Index.{Index, by_fault, checked_index, index_of, reads_index}};
+ghost use Rattle.repo_model.specs.{Facts.{AreNamedPackages}, Feed.{FeedStandsFor}};
+ghost use Rattle.repo_model.specs.declared.fault.IndexFault.{IndexFault};
+ghost use Rattle.repo_model.specs.{Refusals.{is_memory, Refuses}, Limits.{most_bytes}};
+ghost use Rattle.coinst_run.specs.Ending.{IsReadEnding, Settles, StopsAt, stop_ending};
+ghost use Rattle.coinst_run.specs.{Course.{Course, reads}, Faults.{fault_cause}, Feeding.{WasFed}};
+ghost use Rattle.coinst_run.specs.{Held.{WasMeasured}, Follows.{Follows, ReachesIndex, WasRead}};
+ghost use Rattle.coinst_run.specs.Index.{Index, by_fault, checked_index, index_of, reads_index};
 
 use crate::answer::{Cause, Stop};
 use crate::lines::{fault_line, too_long_line};

@@ -1,14 +1,20 @@
 //! The command that asks of a stored kernel whether one package for each goal can be installed
 //! together.
-ghost use Rattle.std.specs.{Prelude.{◌≡◌, ◌++◌, ◌<◌, ◌≤◌, Ok, OnOk, IfOk, IfErr, IfSome, filter, length}, List.{flat_map}};
+ghost use Rattle.std.specs.Prelude.{◌≡◌, ◌++◌, ◌<◌, ◌≤◌, Ok, OnOk, IfOk, IfErr, IfSome, filter};
+ghost use Rattle.std.specs.{Prelude.{length}, List.{flat_map}};
 ghost use Rattle.clause_solver.specs.Outcomes.{IsBudget};
 ghost use Rattle.coinst_words.specs.Jobs.{AreInLimits};
 ghost use Rattle.kernel_text.specs.KernelReads.{content};
-ghost use Rattle.row_book.specs.{Book.{repository_of, Sound}, Numbers.{numbers}, Flags.{flag}, Needs.{NeedsFit}, Sound.{SoundRepository}};
+ghost use Rattle.row_book.specs.{Book.{repository_of, Sound}, Numbers.{numbers}, Flags.{flag}};
+ghost use Rattle.row_book.specs.{Needs.{NeedsFit}, Sound.{SoundRepository}};
 ghost use Rattle.suite_compare.specs.Asking.{tree_of};
-ghost use Rattle.coinst_run.specs.{Answer.{refused}, Course.{answers}, Ending.{ending_of, Settles, stop_ending, StopsAt}, Follows.{Follows}};
-ghost use Rattle.coinst_run.specs.{Outcome.{answered}, Query.{by_tree}, declared.answer.Cause.TheVariants.{Content}};
-ghost use Rattle.coinst_run.specs.StoredQuery.{checked_kernel, class_line, classes_text, kernel_fault_line, kernel_fault_text, stored_answer, stored_query_answer, stored_query_course};
+ghost use Rattle.coinst_run.specs.{Answer.{refused}, Course.{answers}};
+ghost use Rattle.coinst_run.specs.Ending.{ending_of, Settles, stop_ending, StopsAt};
+ghost use Rattle.coinst_run.specs.{Follows.{Follows}, Outcome.{answered}, Query.{by_tree}};
+ghost use Rattle.coinst_run.specs.declared.answer.Cause.TheVariants.{Content};
+ghost use Rattle.coinst_run.specs.StoredQuery.{checked_kernel, class_line, classes_text};
+ghost use Rattle.coinst_run.specs.StoredQuery.{kernel_fault_line, kernel_fault_text, stored_answer};
+ghost use Rattle.coinst_run.specs.StoredQuery.{stored_query_answer, stored_query_course};
 ghost use Rattle.repo_model.specs.Limits.{most_bytes};
 
 use crate::answer::{Cause, Report, ReportVerdict, Stop};
@@ -31,14 +37,14 @@ pub fn stored_query<F: Shelf>(
     shelf: &mut F,
     path: &str,
     goals: &[Goal],
-    with: Settings,
+    settings: Settings,
 ) -> Result<Report, Stop>
-    requires { AreInLimits with }
-    ensures { Follows F.model (stored_query_course path.now goals.now with.budget) shelf.old
+    requires { AreInLimits settings }
+    ensures { Follows F.model (stored_query_course path.now goals.now settings.budget) shelf.old
         (ending_of result) shelf.new }
 {
     let text = text_at(alloc, shelf, path)?;
-    stored_report(alloc, text.as_slice(), path, goals, with.budget)
+    stored_report(alloc, text.as_slice(), path, goals, settings.budget)
 }
 
 // The report on goals that are asked of the kernel of a text.
@@ -56,6 +62,7 @@ fn stored_report(
     let mut pool = Pool::new(alloc)?;
     let stored = checked_kernel(alloc, &mut pool, path, text)?;
     let report = goals_report(alloc, &pool, &stored, goals, budget);
+    // Its one end: a proof follows each field at every end of the body that owns it.
     drop(stored);
     report
 }
@@ -157,7 +164,7 @@ fn push_classes(out: &mut Vec<u8>, chosen: &[bool]) -> Put
 }
 
 // Yes, and the classes whose flags are up.
-#[tactic(auto, using(std::proofs::Common::append_assoc), unfolding(crate::specs::StoredQuery::classes_text))]
+#[tactic(auto, using(crate::proofs::append_assoc), unfolding(crate::specs::classes_text))]
 fn classes_text(alloc: Global, chosen: &[bool]) -> Made
     ensures { IfOk result (λ text. text.items ≡ classes_text chosen.now) }
 {

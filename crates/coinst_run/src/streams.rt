@@ -1,8 +1,13 @@
 //! The edge of the program: the top call over the files and the two streams of the system.
 ghost use Rattle.std.specs.{Prelude.{◌≡◌, Option, map, string_bytes}, Process.{exit_status}};
-ghost use Rattle.claims.specs.Sentences.{CompareIsTrue, ExplainIsTrue, KernelIsSettled, KernelIsTrue, MigrateIsTrue, QueryIsTrue, StatusIsTrue, StoredQueryIsTrue};
-ghost use Rattle.coinst_run.specs.{Delivers.{Delivers}, Follows.{FollowsJob}, Meaning.{IsMeant}, Outcome.{Outcome}, Readings.{Noted, NotesReport}};
-ghost use Rattle.coinst_run.specs.{Status.{code_of, verdict_status}, declared.answer.ReportVerdict.{ReportVerdict}, declared.status.Status.{Status}};
+ghost use Rattle.claims.specs.Sentences.{CompareIsTrue, ExplainIsTrue, KernelIsSettled};
+ghost use Rattle.claims.specs.Sentences.{KernelIsTrue, MigrateIsTrue, QueryIsTrue, StatusIsTrue};
+ghost use Rattle.claims.specs.Sentences.{StoredQueryIsTrue};
+ghost use Rattle.coinst_run.specs.{Delivers.{Delivers}, Follows.{FollowsJob}, Meaning.{IsMeant}};
+ghost use Rattle.coinst_run.specs.{Outcome.{Outcome}, Readings.{Noted, NotesReport}};
+ghost use Rattle.coinst_run.specs.Status.{code_of, verdict_status};
+ghost use Rattle.coinst_run.specs.declared.answer.ReportVerdict.{ReportVerdict};
+ghost use Rattle.coinst_run.specs.declared.status.Status.{Status};
 ghost use Rattle.coinst_words.specs.Jobs.{job_of};
 
 use crate::top::run;

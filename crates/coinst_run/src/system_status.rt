@@ -2,8 +2,8 @@
 ghost use Rattle.std.specs.Prelude.{◌≤◌, length};
 ghost use Rattle.clause_solver.specs.Outcomes.{IsBudget};
 ghost use Rattle.coinst_words.specs.Jobs.{AreInLimits};
-ghost use Rattle.coinst_run.specs.{Course.{reads}, Ending.{Settles, ending_of}, Follows.{Follows}, Index.{index_of}};
-ghost use Rattle.coinst_run.specs.SystemStatus.{status_course, system_answer};
+ghost use Rattle.coinst_run.specs.{Course.{reads}, Ending.{Settles, ending_of}, Follows.{Follows}};
+ghost use Rattle.coinst_run.specs.{Index.{index_of}, SystemStatus.{status_course, system_answer}};
 ghost use Rattle.repo_model.specs.Limits.{most_bytes};
 
 use crate::answer::{Report, Stop};
@@ -23,15 +23,16 @@ pub fn system_status<F: Shelf>(
     shelf: &mut F,
     file: &str,
     index: &str,
-    with: Settings,
+    settings: Settings,
 ) -> Result<Report, Stop>
-    requires { AreInLimits with }
+    requires { AreInLimits settings }
     ensures { Follows F.model
-        (status_course file.now index.now with.budget with.clause_limit with.hold)
+        (status_course file.now index.now settings.budget settings.clause_limit settings.hold)
         shelf.old (ending_of result) shelf.new }
 {
-    let view = view_at(alloc, shelf, index, with.clause_limit, with.hold)?;
-    let report = system_at(alloc, shelf, &view, file, with.budget);
+    let view = view_at(alloc, shelf, index, settings.clause_limit, settings.hold)?;
+    let report = system_at(alloc, shelf, &view, file, settings.budget);
+    // Its one end: a proof follows each field at every end of the body that owns it.
     drop(view);
     report
 }

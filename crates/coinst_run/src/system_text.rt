@@ -1,6 +1,8 @@
 //! The report on an installed system, made whole in memory.
 ghost use Rattle.std.specs.Prelude.{◌≡◌, ◌++◌, ◌<◌, IfOk, OnOk, filter, length};
-ghost use Rattle.coinst_run.specs.SystemText.{clash_text, have_text, is_had, is_lacking, own_text, suite_text, system_text, system_verdict, unhit_text, AreOfLines};
+ghost use Rattle.coinst_run.specs.SystemText.{clash_text, have_text, is_had, is_lacking, own_text};
+ghost use Rattle.coinst_run.specs.SystemText.{suite_text, system_text, system_verdict, unhit_text};
+ghost use Rattle.coinst_run.specs.SystemText.{AreOfLines};
 
 use crate::answer::ReportVerdict;
 use crate::lines::{Made, Put, push_count, push_end, push_pair, push_versioned};
@@ -28,7 +30,7 @@ fn push_unhit(out: &mut Vec<u8>, line: &HaveLine) -> Put
 }
 
 // Appends the two own packages that conflict.
-#[tactic(auto, using(std::proofs::Common::append_assoc))]
+#[tactic(auto, using(crate::proofs::append_assoc))]
 fn push_clash(out: &mut Vec<u8>, first: &HaveLine, second: &HaveLine) -> Put
     ensures { OnOk result (out.new.items ≡ out.old.items ++ clash_text first.now second.now) }
 {
@@ -79,7 +81,7 @@ fn count_lacking(lines: &[HaveLine]) -> usize
 }
 
 /// The text of a report within a budget.
-#[tactic(auto, using(std::proofs::Common::append_assoc), unfolding(crate::specs::SystemText::system_text))]
+#[tactic(auto, using(crate::proofs::append_assoc), unfolding(crate::specs::system_text))]
 pub(crate) fn system_text(alloc: Global, report: &StatusReport, budget: u64) -> Made
     requires { AreOfLines report.now.lines report.now.own }
     ensures { IfOk result (λ text. text.items ≡ system_text budget report.now) }

@@ -1,10 +1,17 @@
 //! The top call: all that the program does, over any shelf and any two sinks.
 ghost use Rattle.std.specs.Prelude.{◌≡◌, ◌⊎◌, IfSome, None, Option, map, string_bytes};
 ghost use Rattle.byte_flow.specs.Flow.{Rose};
-ghost use Rattle.claims.specs.Sentences.{CompareIsTrue, ExplainIsTrue, KernelIsSettled, KernelIsTrue, MigrateIsTrue, QueryIsTrue, StatusIsTrue, StoredQueryIsTrue};
-ghost use Rattle.coinst_run.specs.{Delivers.{Delivers, Tells}, Ending.{ending_of}, Follows.{Follows, FollowsJob}, Meaning.{IsMeant, course_of, outcome_for}};
-ghost use Rattle.coinst_run.specs.{Outcome.{Outcome}, Readings.{IsOfText, Prints, RunRefuses, Reports}, Run.{RunAnswers, Completes}};
-ghost use Rattle.coinst_run.specs.{Status.{cause_status, verdict_status}, declared.answer.Cause.{Cause}, declared.answer.ReportVerdict.{ReportVerdict}};
+ghost use Rattle.claims.specs.Sentences.{CompareIsTrue, ExplainIsTrue, KernelIsSettled};
+ghost use Rattle.claims.specs.Sentences.{KernelIsTrue, MigrateIsTrue, QueryIsTrue, StatusIsTrue};
+ghost use Rattle.claims.specs.Sentences.{StoredQueryIsTrue};
+ghost use Rattle.coinst_run.specs.{Delivers.{Delivers, Tells}, Ending.{ending_of}};
+ghost use Rattle.coinst_run.specs.Follows.{Follows, FollowsJob};
+ghost use Rattle.coinst_run.specs.{Meaning.{IsMeant, course_of, outcome_for}, Outcome.{Outcome}};
+ghost use Rattle.coinst_run.specs.Readings.{IsOfText, Prints, RunRefuses, Reports};
+ghost use Rattle.coinst_run.specs.Run.{RunAnswers, Completes};
+ghost use Rattle.coinst_run.specs.Status.{cause_status, verdict_status};
+ghost use Rattle.coinst_run.specs.declared.answer.Cause.{Cause};
+ghost use Rattle.coinst_run.specs.declared.answer.ReportVerdict.{ReportVerdict};
 ghost use Rattle.coinst_words.specs.Jobs.{IsInLimits, job_of};
 
 use crate::answer::{Report, Stop};
@@ -27,23 +34,35 @@ fn answer_job<F: Shelf>(alloc: Global, shelf: &mut F, job: &Job) -> Result<Repor
     requires { IsInLimits job.now }
     ensures { Follows F.model (course_of job.now) shelf.old (ending_of result) shelf.new }
 {
-    let with = job.settings();
+    let settings = job.settings();
     match job {
-        Job::Kernel { index, json, .. } => kernel(alloc, shelf, index.as_str(), *json, with),
+        Job::Kernel { index, json, .. } => kernel(alloc, shelf, index.as_str(), *json, settings),
         Job::Query { index, goals, .. } => {
-            query(alloc, shelf, index.as_str(), goals.as_slice(), with)
+            query(alloc, shelf, index.as_str(), goals.as_slice(), settings)
         }
         Job::StoredQuery { kernel, goals, .. } => {
-            stored_query(alloc, shelf, kernel.as_str(), goals.as_slice(), with)
+            stored_query(alloc, shelf, kernel.as_str(), goals.as_slice(), settings)
         }
-        Job::Compare { old, new, .. } => compare(alloc, shelf, old.as_str(), new.as_str(), with),
+        Job::Compare { old, new, .. } => compare(
+            alloc,
+            shelf,
+            old.as_str(),
+            new.as_str(),
+            settings,
+        ),
         Job::Explain { index, goals, .. } => {
-            explain(alloc, shelf, index.as_str(), goals.as_slice(), with)
+            explain(alloc, shelf, index.as_str(), goals.as_slice(), settings)
         }
         Job::Status { file, index, .. } => {
-            system_status(alloc, shelf, file.as_str(), index.as_str(), with)
+            system_status(alloc, shelf, file.as_str(), index.as_str(), settings)
         }
-        Job::Migrate { old, new, .. } => migrate(alloc, shelf, old.as_str(), new.as_str(), with),
+        Job::Migrate { old, new, .. } => migrate(
+            alloc,
+            shelf,
+            old.as_str(),
+            new.as_str(),
+            settings,
+        ),
         Job::Sample { seed, count } => sample(alloc, *seed, *count),
     }
 }

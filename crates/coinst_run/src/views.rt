@@ -2,8 +2,10 @@
 ghost use Rattle.std.specs.Prelude.{◌≡◌, ◌<◌, Bool, Ok, IfOk, IfErr, OnOk};
 ghost use Rattle.suite_compare.specs.Refusals.{RefusesSuite};
 ghost use Rattle.repo_model.specs.Facts.{AreNamedPackages};
-ghost use Rattle.coinst_run.specs.{Course.{Course}, Ending.{StopsAt, stop_ending}, Follows.{Follows, ReachesKernel}, Index.{Index, index_of}};
-ghost use Rattle.coinst_run.specs.{IndexKernel.{ClassedKernel, index_kernel}, Kernel.{kernel_of, reads_kernel}};
+ghost use Rattle.coinst_run.specs.{Course.{Course}, Ending.{StopsAt, stop_ending}};
+ghost use Rattle.coinst_run.specs.{Follows.{Follows, ReachesKernel}, Index.{Index, index_of}};
+ghost use Rattle.coinst_run.specs.IndexKernel.{ClassedKernel, index_kernel};
+ghost use Rattle.coinst_run.specs.Kernel.{kernel_of, reads_kernel};
 
 use crate::answer::{Cause, Stop};
 use crate::lines::{line_about, push_row, push_stage};

@@ -1,10 +1,13 @@
 -- `clap` takes the words of a program exactly where they are said, and enters the command with what was said.
-use Rattle.std.proofs.Common.{◌≡◌, ◌∙◌, ◌&&◌, ◌||◌, ℕ, Bool, cond, true, false, refl, sym, ap, ap₂, subst, codes, List, [], ◌∷◌, ◌++◌, map, Option, Some, None, is_some, suc, length}
+use Rattle.std.proofs.Common.{◌≡◌, ◌∙◌, ◌&&◌, ◌||◌, ℕ, Bool, cond, true, false, refl, sym, ap, ap₂, subst, codes, List, [], ◌∷◌, ◌++◌, map, Option, Some, None}
+use Rattle.std.proofs.Common.{is_some, suc, length}
 use Rattle.std.specs.{List.{find, fold}, Option.{option_map, option_map_or}, Prelude.{slice_get}, Str.{bytes_eq, chars}}
 use Rattle.listed.proofs.Lists.{same_bytes}
 use Rattle.clap.specs.{Lexer.{long_of, short_of}, Kinds.{Kinds, or_else}}
-use Rattle.clap.specs.Faults.{built_fault, bundle_fault, bundle_step_fault, check_fault, defaults_fault, entered_fault, fault_of, flag_word_fault, flags_fault, level_fault, other_fault, settle_fault, step_fault, turn_fault, walk_fault}
-use Rattle.clap.specs.Walk.{Held, Names, Row, Rule, Step, Walk, after_step, answers_to, idle, long_or_other, short_or_plain, subcommand_or_other, trailing, arg_by_short, finished, nothing_held, rows_after, settled, settled_rows, walk, walk_from, walked, with_default}
+use Rattle.clap.specs.Faults.{built_fault, bundle_fault, bundle_step_fault, check_fault, defaults_fault, entered_fault, fault_of, flag_word_fault, flags_fault}
+use Rattle.clap.specs.Faults.{level_fault, other_fault, settle_fault, step_fault, turn_fault, walk_fault}
+use Rattle.clap.specs.Walk.{Held, Names, Row, Rule, Step, Walk, after_step, answers_to, idle, long_or_other, short_or_plain, subcommand_or_other, trailing}
+use Rattle.clap.specs.Walk.{arg_by_short, finished, nothing_held, rows_after, settled, settled_rows, walk, walk_from, walked, with_default}
 use Rattle.clap.specs.{Simple.{App, Shape, built, entered, label_of, names_of, rows_at, subcommand_of}, declared.error.kind.ErrorKind.{ErrorKind}}
 use Rattle.clap.specs.declared.error.kind.ErrorKind.TheVariants as kind
 use Rattle.clap.proofs.WalkLemmas.{walk_stopped}

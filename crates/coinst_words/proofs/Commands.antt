@@ -1,6 +1,6 @@
 -- Commands that are put together argument by argument.
-use Rattle.std.proofs.Common.{◌≡◌, ◌∙◌, ℕ, ◌<◌, ◌+◌, ◌||◌, false, sym, ap, ap₂, subst, List, [], ◌∷◌, ◌++◌, map, take, drop, append_assoc, ◌≤◌, append-nil, get_or, length}
-use Rattle.std.proofs.lemmas.List.{at_drop_all, at_drop_more, map-append, take_all, take_more}
+use Rattle.std.proofs.Common.{◌≡◌, ◌∙◌, ℕ, ◌<◌, ◌+◌, ◌||◌, false, sym, ap, ap₂, subst, List, [], ◌∷◌, ◌++◌, map, take, drop, append_assoc, ◌≤◌, append-nil}
+use Rattle.std.proofs.{Common.{get_or, length}, lemmas.List.{at_drop_all, at_drop_more, map-append, take_all, take_more}}
 use Rattle.std.specs.Borrow.{Bor}
 use Rattle.clap.specs.{Walk.{Rule, rule_of}, Built.{AddsArg}, Simple.{App, Shape, app_of, new_shape, with_rule, with_subcommand}}
 use Rattle.clap.specs.{declared.builder.arg.Arg.{Arg}, declared.builder.command.Command.{Command}, declared.builder.command.Command.TheViews.{out-Command}}

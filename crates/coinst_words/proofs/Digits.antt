@@ -1,6 +1,6 @@
 -- Numbers of decimal digits.
-use Rattle.std.proofs.Common.{◌≡◌, ◌∙◌, ◌<◌, ◌≤◌, ◌==◌, ◌&&◌, ◌^◌, ℕ, Bool, cond, true, false, nat_le, nat_lt, refl, sym, ap, subst, List, [], ◌∷◌, length, drop, None, arith}
-use Rattle.std.proofs.lemmas.Bool.{leb-true, lt-ltb, le-ltb, ne_eqb, and_parts}
+use Rattle.std.proofs.Common.{◌≡◌, ◌∙◌, ◌<◌, ◌≤◌, ◌==◌, ◌&&◌, ◌^◌, ℕ, Bool, cond, true, false, nat_le, nat_lt, refl, sym, ap, subst, List, [], ◌∷◌, length}
+use Rattle.std.proofs.{Common.{drop, None, arith}, lemmas.Bool.{leb-true, lt-ltb, le-ltb, ne_eqb, and_parts}}
 use Rattle.std.specs.{Char.{digit_value, is_ascii_digit}, List.{list_all}, Str.Parse.{AllDigits, IsNumeral, digits_value, without_leading_plus}}
 use Rattle.coinst_words.specs.Words.{is_number, is_within, number_in}
 

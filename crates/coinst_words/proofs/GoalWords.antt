@@ -1,6 +1,6 @@
 -- Goals that are read word by word.
-use Rattle.std.proofs.Common.{◌≡◌, ◌∙◌, ◌<◌, ◌+◌, ℕ, zero, suc, refl, sym, ap, subst, List, [], ◌∷◌, ◌++◌, map, take, length, get_or, Option, Some, None, Result, Ok, Err, IfErr, arith}
-use Rattle.std.proofs.lemmas.List.{map-append, take_more}
+use Rattle.std.proofs.Common.{◌≡◌, ◌∙◌, ◌<◌, ◌+◌, ℕ, zero, suc, refl, sym, ap, subst, List, [], ◌∷◌, ◌++◌, map, take, length, get_or, Option, Some, None}
+use Rattle.std.proofs.{Common.{Result, Ok, Err, IfErr, arith}, lemmas.List.{map-append, take_more}}
 use Rattle.std.specs.{Prelude.{IsErrAnd, option_and_then}, Borrow.{Bor}, Option.{option_map}}
 use Rattle.coinst_words.specs.{Words.{goals_of, some_goals_of}, Refusals.{OnNotACommand}, declared.error.WordError.{WordError}}
 use Rattle.coinst_words.specs.{declared.error.WordError.TheVariants.{NotACommand, Memory}, Usage.{Text}}

@@ -1,10 +1,13 @@
 -- `clap` takes the words of a usage exactly where they are read, and its rows are what was read.
-use Rattle.std.proofs.Common.{◌≡◌, ◌⊎◌, inl, inr, ◌∙◌, ◌&&◌, Bool, cond, true, false, refl, sym, ap, ap₂, subst, codes, List, [], ◌∷◌, ◌++◌, Option, Some, None, is_some, append_assoc, append-nil}
+use Rattle.std.proofs.Common.{◌≡◌, ◌⊎◌, inl, inr, ◌∙◌, ◌&&◌, Bool, cond, true, false, refl, sym, ap, ap₂, subst, codes, List, [], ◌∷◌, ◌++◌, Option, Some, None}
+use Rattle.std.proofs.Common.{is_some, append_assoc, append-nil}
 use Rattle.std.specs.{Option.{option_map, option_map_or}, Prelude.{option_and_then, nat_lt}, Str.{bytes_eq}}
 use Rattle.listed.proofs.Lists.{same_bytes}
 use Rattle.clap.specs.{Kinds.{Kinds, or_else}, Faults.{positional_fault, react_fault, settle_fault, step_fault, turn_fault, use_fault, word_fault}}
-use Rattle.clap.specs.Walk.{Held, Row, Rule, Step, Waiting, Walk, after_step, arg_by_id, idle, is_pending, next, option, option_word, plain_word, positional, reacted, settled, settled_rows, to_positional, trailing, value, walked, word_met, used, used_by_id, has_row, pushed}
-use Rattle.coinst_words.specs.Usage.{Meaning, Said, Text, Usage, asks, dashed_or_plain, ends, flag, give, gives, is_among, long_or_other, meaning_of, option_meaning, plain, read, read_word, refused, say, value_of}
+use Rattle.clap.specs.Walk.{Held, Row, Rule, Step, Waiting, Walk, after_step, arg_by_id, idle, is_pending, next, option, option_word, plain_word, positional}
+use Rattle.clap.specs.Walk.{reacted, settled, settled_rows, to_positional, trailing, value, walked, word_met, used, used_by_id, has_row, pushed}
+use Rattle.coinst_words.specs.Usage.{Meaning, Said, Text, Usage, asks, dashed_or_plain, ends, flag, give, gives, is_among, long_or_other, meaning_of}
+use Rattle.coinst_words.specs.Usage.{option_meaning, plain, read, read_word, refused, say, value_of}
 use Rattle.coinst_words.proofs.Rules.{flag_built, found_by_id, found_by_index, rules_built, valued_built, words_built}
 use Rattle.coinst_words.proofs.{RowsSaid.{Looks, eq_self, gave, has_row-values, said_word, set_appends}, Walks.{Spells, held, leaf, walk_at, IsMet, met}}
 

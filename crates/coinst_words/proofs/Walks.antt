@@ -2,11 +2,13 @@
 use Rattle.std.proofs.Common.{◌≡◌, ℕ, Bool, cond, true, false, refl, sym, ap, subst, codes, List, [], ◌∷◌, Option, Some, None, suc, length}
 use Rattle.std.specs.{List.{list_all, list_any, find, fold}, Option.{option_map, unwrap_or}, Prelude.{slice_get, option_and_then}, Str.{bytes_eq, chars}}
 use Rattle.clap.specs.{Lexer.{long_of, short_of}, Kinds.{Kinds}}
-use Rattle.clap.specs.Faults.{bundle_fault, bundle_step_fault, flag_word_fault, flags_fault, long_fault, other_fault, react_fault, settle_fault, short_fault, word_fault}
-use Rattle.clap.specs.Walk.{Held, Row, Rule, Step, Waiting, Walk, after_flag, after_step, arg_by_id, arg_by_index, arg_by_long, arg_by_short, idle, long_met, long_word, next, option, option_word, plain_word, positional, positional_held, reacted, settled, settled_rows, subcommand_met, to_positional, trailing, value, walked, word_met, subcommand_or_other, used}
-use Rattle.clap.specs.Simple.{Shape, built_leaf, inherited}
-use Rattle.coinst_words.specs.Usage.{Meaning, Text, Usage, asks, dashed_or_plain, ends, flag, gives, is_among, long_or_other, meaning_of, option_meaning, plain, refused}
-use Rattle.coinst_words.specs.Program.{app_of_usages, shape_of_usage}
+use Rattle.clap.specs.Faults.{bundle_fault, bundle_step_fault, flag_word_fault, flags_fault, long_fault, other_fault, react_fault, settle_fault, short_fault}
+use Rattle.clap.specs.Faults.{word_fault}
+use Rattle.clap.specs.Walk.{Held, Row, Rule, Step, Waiting, Walk, after_flag, after_step, arg_by_id, arg_by_index, arg_by_long, arg_by_short, idle, long_met}
+use Rattle.clap.specs.Walk.{long_word, next, option, option_word, plain_word, positional, positional_held, reacted, settled, settled_rows, subcommand_met}
+use Rattle.clap.specs.{Walk.{to_positional, trailing, value, walked, word_met, subcommand_or_other, used}, Simple.{Shape, built_leaf, inherited}}
+use Rattle.coinst_words.specs.Usage.{Meaning, Text, Usage, asks, dashed_or_plain, ends, flag, gives, is_among, long_or_other, meaning_of, option_meaning, plain}
+use Rattle.coinst_words.specs.{Usage.{refused}, Program.{app_of_usages, shape_of_usage}}
 use Rattle.coinst_words.proofs.Rules.{flag_built, found_by_long, found_by_short, rules_built, rules_filled, valued_built}
 
 -- the command of a usage, built under the command above it

@@ -1,8 +1,14 @@
 -- The commands: what words each takes, the job that they ask for, and its settings.
-use Rattle.std.specs.{Prelude.{ℕ, Bool, false, true, List, [], ◌∷◌, Option, Some, None, codes, if◌then◌else◌, option_and_then, option_map}, Str.{bytes_eq}}
-use Rattle.coinst_words.specs.{declared.job.Job.{Job}, declared.job.Job.TheVariants.{Kernel, Query, StoredQuery, Compare, Explain, Status, Migrate, Sample}}
-use Rattle.coinst_words.specs.{declared.job.Settings.{Settings}, Usage.{Said, Text, Usage, said_of, value_of}}
-use Rattle.coinst_words.specs.Words.{IsBetween, IsBudget, IsClauseLimit, budget_of, clause_limit_of, count_of, index_and_goals, is_on, is_path, seed_of, some_goals_of, two_paths}
+use Rattle.std.specs.Prelude.{ℕ, Bool, false, true, List, [], ◌∷◌, Option, Some, None, codes}
+use Rattle.std.specs.{Prelude.{if◌then◌else◌, option_and_then, option_map}, Str.{bytes_eq}}
+use Rattle.coinst_words.specs.declared.job.Job.{Job}
+use Rattle.coinst_words.specs.declared.job.Job.TheVariants.{Kernel, Query, StoredQuery, Compare}
+use Rattle.coinst_words.specs.declared.job.Job.TheVariants.{Explain, Status, Migrate, Sample}
+use Rattle.coinst_words.specs.declared.job.Settings.{Settings}
+use Rattle.coinst_words.specs.Usage.{Said, Text, Usage, said_of, value_of}
+use Rattle.coinst_words.specs.Words.{IsBetween, IsBudget, IsClauseLimit, budget_of, clause_limit_of}
+use Rattle.coinst_words.specs.Words.{count_of, index_and_goals, is_on, is_path, seed_of}
+use Rattle.coinst_words.specs.Words.{some_goals_of, two_paths}
 use Rattle.repo_model.specs.Limits.{most_packages}
 
 -- `kernel [--json] [--clause-limit N] [--hold] INDEX`

@@ -1,7 +1,9 @@
 -- for the bodies of this crate alone
--- What the matches of a parse hold of what the words say.
-use Rattle.std.specs.{Prelude.{◌≡◌, true, false, List, [], ◌∷◌, Option, Some, None, codes, option_map, unwrap_or}, Str.{bytes_eq}}
-use Rattle.clap.specs.{Walk.{Row, all_of}, Simple.{subcommand_rows_of}, Matches.{matched_of, raw_values}, declared.parser.matches.Found.{Found}}
+-- Words were parsed by `clap`: how its matches hold what the words say.
+use Rattle.std.specs.Prelude.{◌≡◌, true, false, List, [], ◌∷◌, Option, Some, None, codes}
+use Rattle.std.specs.{Prelude.{option_map, unwrap_or}, Str.{bytes_eq}}
+use Rattle.clap.specs.{Walk.{Row, all_of}, Simple.{subcommand_rows_of}}
+use Rattle.clap.specs.{Matches.{matched_of, raw_values}, declared.parser.matches.Found.{Found}}
 use Rattle.clap.specs.declared.parser.matches.ArgMatches.{ArgMatches}
 use Rattle.coinst_words.specs.Usage.{Said, Text, Usage, is_among, value_of}
 

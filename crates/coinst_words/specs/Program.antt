@@ -1,7 +1,8 @@
 -- for the bodies of this crate alone
 -- The commands in the form that `clap` takes.
 use Rattle.std.specs.Prelude.{◌≡◌, true, false, List, [], ◌∷◌, ◌++◌, map, Some, codes}
-use Rattle.clap.specs.{Walk.{Rule}, Simple.{Shape, App, new_rule, new_shape, shape_of}, declared.builder.command.Command.{Command}}
+use Rattle.clap.specs.{Walk.{Rule}, Simple.{Shape, App, new_rule, new_shape, shape_of}}
+use Rattle.clap.specs.declared.builder.command.Command.{Command}
 use Rattle.clap.specs.declared.builder.command.Command.TheViews.{out-Command as fields_of}
 use Rattle.clap.specs.declared.builder.action.ArgAction.TheVariants.{Set, Append, SetTrue}
 use Rattle.coinst_words.specs.Usage.{Text, Usage}

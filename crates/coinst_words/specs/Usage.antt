@@ -1,6 +1,7 @@
 -- What the words of a command line say, for commands that each take some options and other words.
-use Rattle.std.specs.Prelude.{ℕ, Bool, List, [], ◌∷◌, ◌++◌, Option, Some, None, is_some, find, codes, if◌then◌else◌, option_and_then, option_map}
-use Rattle.std.specs.{List.{list_any}, Str.{bytes_eq}}
+use Rattle.std.specs.Prelude.{ℕ, Bool, List, [], ◌∷◌, ◌++◌, Option, Some, None, is_some, find}
+use Rattle.std.specs.{Prelude.{codes, if◌then◌else◌, option_and_then, option_map}, List.{list_any}}
+use Rattle.std.specs.Str.{bytes_eq}
 use Rattle.clap.specs.Lexer.{long_of, short_of}
 
 abbrev pub Text : Type 0

@@ -1,6 +1,8 @@
 -- What single words are: paths, numbers and goals.
-use Rattle.std.specs.Prelude.{◌≤◌, ℕ, Bool, false, not, ◌&&◌, nat_le, List, [], ◌∷◌, length, Option, Some, None, codes, if◌then◌else◌, option_and_then, option_map}
-use Rattle.std.specs.{Char.{is_ascii_digit}, List.{list_all}, Str.{bytes_eq}, Str.Parse.{digits_value}}
+use Rattle.std.specs.Prelude.{◌≤◌, ℕ, Bool, false, not, ◌&&◌, nat_le, List, [], ◌∷◌, length, Option}
+use Rattle.std.specs.Prelude.{Some, None, codes, if◌then◌else◌, option_and_then, option_map}
+use Rattle.std.specs.{Char.{is_ascii_digit}, List.{list_all}, Str.{bytes_eq}}
+use Rattle.std.specs.Str.Parse.{digits_value}
 use Rattle.coinst_words.specs.Usage.{Text}
 use Rattle.repo_model.specs.{declared.goals.Goal.{Goal}, Goals.{goal_of}, Limits.{most_packages}}
 

@@ -1,8 +1,13 @@
 //! The commands: what words each takes, and its job by its options and by its ordinary words.
 ghost use Rattle.std.specs.Prelude.{◌≡◌, false, true, IfOk, IfErr, None, Some, map, option_map};
 ghost use Rattle.clap.specs.Words.{found_of, first_value};
-ghost use Rattle.coinst_words.specs.Jobs.{compare_job, explain_job, index_query, job_named, kernel_job, migrate_job, options_by, query_job, sample_job, settings_by, status_job, stored_query, AreInLimits, IsInLimits};
-ghost use Rattle.coinst_words.specs.{Words.{index_and_goals, is_on, is_path, two_paths}, Given.{options_of}, Parsed.{words_in}, Refusals.{OnNotACommand}};
+ghost use Rattle.coinst_words.specs.Jobs.{compare_job, explain_job, index_query, job_named};
+ghost use Rattle.coinst_words.specs.Jobs.{kernel_job, migrate_job, options_by, query_job};
+ghost use Rattle.coinst_words.specs.Jobs.{sample_job, settings_by, status_job, stored_query};
+ghost use Rattle.coinst_words.specs.Jobs.{AreInLimits, IsInLimits};
+ghost use Rattle.coinst_words.specs.Words.{index_and_goals, is_on, is_path, two_paths};
+ghost use Rattle.coinst_words.specs.{Given.{options_of}, Parsed.{words_in}};
+ghost use Rattle.coinst_words.specs.Refusals.{OnNotACommand};
 
 use crate::error::WordError;
 use crate::goals::goals_in;

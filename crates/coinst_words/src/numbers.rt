@@ -1,6 +1,8 @@
 //! Numbers among the words.
-ghost use Rattle.std.specs.{Prelude.{◌≡◌, ◌≤◌, ◌<◌, ◌^◌, None, Some, IfOk, IfErr, IfSome, option_map}, Char.{is_ascii_digit}, List.{list_all}};
-ghost use Rattle.coinst_words.specs.Words.{budget_of, clause_limit_of, count_of, is_number, number_in, number_or, seed_of, IsBetween};
+ghost use Rattle.std.specs.Prelude.{◌≡◌, ◌≤◌, ◌<◌, ◌^◌, None, Some, IfOk, IfErr, IfSome};
+ghost use Rattle.std.specs.{Prelude.{option_map}, Char.{is_ascii_digit}, List.{list_all}};
+ghost use Rattle.coinst_words.specs.Words.{budget_of, clause_limit_of, count_of, is_number};
+ghost use Rattle.coinst_words.specs.Words.{number_in, number_or, seed_of, IsBetween};
 ghost use Rattle.coinst_words.specs.Refusals.{OnNotACommand};
 ghost use Rattle.repo_model.specs.Limits.{most_packages};
 

@@ -1,7 +1,9 @@
 //! The program's commands for `clap`, and its parse of the words.
-ghost use Rattle.std.specs.Prelude.{◌≡◌, Some, codes, false, true, IfOk, IfErr, ◌++◌, map, None, string_bytes, []};
+ghost use Rattle.std.specs.Prelude.{◌≡◌, Some, codes, false, true, IfOk, IfErr, ◌++◌, map, None};
+ghost use Rattle.std.specs.Prelude.{string_bytes, []};
 ghost use Rattle.clap.specs.Words.{app_of, kind_of, rule_of, with_subcommand};
-ghost use Rattle.coinst_words.specs.{Program.{app_of_usages, bare_app, flag_rule, shape_of_usage, valued_rule, words_rule, IsCommand}, Jobs.{usages}};
+ghost use Rattle.coinst_words.specs.Program.{app_of_usages, bare_app, flag_rule, shape_of_usage};
+ghost use Rattle.coinst_words.specs.{Program.{valued_rule, words_rule, IsCommand}, Jobs.{usages}};
 ghost use Rattle.coinst_words.specs.{Usage.{said_of}, Parsed.{Enters}, Refusals.{OnNotACommand}};
 
 use crate::error::WordError;

@@ -1,6 +1,7 @@
 -- What is left of a table of conflicts when some are gone.
-use Rattle.std.proofs.Common.{◌≡◌, ◌≢◌, ℕ, ◌<◌, Bool, true, false, not, ◌&&◌, ◌||◌, cond, eqb, List, [], ◌∷◌, ◌++◌, ◌⊎◌, length, inl, inr, refl, sym, ◌∙◌, ap, ap₂, subst, arith, filter, map, eq-eqb, eqb-true, ne_eqb, length-set}
-use Rattle.std.proofs.{lemmas.Bool.{and_parts, cases_eq, cases_lt, or_cases}, lemmas.List.{get_or_past, get_or-set_other, get_or-set_same, length-map}}
+use Rattle.std.proofs.Common.{◌≡◌, ◌≢◌, ℕ, ◌<◌, Bool, true, false, not, ◌&&◌, ◌||◌, cond, eqb, List, [], ◌∷◌, ◌++◌, ◌⊎◌, length, inl, inr, refl, sym, ◌∙◌, ap}
+use Rattle.std.proofs.{Common.{ap₂, subst, arith, filter, map, eq-eqb, eqb-true, ne_eqb, length-set}, lemmas.Bool.{and_parts, cases_eq, cases_lt, or_cases}}
+use Rattle.std.proofs.lemmas.List.{get_or_past, get_or-set_other, get_or-set_same, length-map}
 use Rattle.listed.proofs.{Orders.{ascending_push}, Lists.{In_has, filter_same, has_In}}
 use Rattle.clause_pool.specs.Interned.{Interned, row_at}
 use Rattle.row_book.specs.{declared.book.Book.{Book}, declared.pair.Pair.{Pair}, Facing.{against_in}, Book.{listed_for}, Thinning.{is_pair, without_pair}}

@@ -1,6 +1,6 @@
 -- A clause whose members have no conflict in common faces none but the empty one, which faces all.
-use Rattle.std.proofs.Common.{◌≡◌, ℕ, ◌<◌, ◌+◌, Bool, true, false, not, cond, eqb, List, [], ◌∷◌, length, inl, inr, refl, sym, ◌∙◌, ap, subst, arith, map, filter}
-use Rattle.std.proofs.lemmas.Bool.{false_from_ne_true, not_from_false}
+use Rattle.std.proofs.Common.{◌≡◌, ℕ, ◌<◌, ◌+◌, Bool, true, false, not, cond, eqb, List, [], ◌∷◌, length, inl, inr, refl, sym, ◌∙◌, ap, subst, arith, map}
+use Rattle.std.proofs.{Common.{filter}, lemmas.Bool.{false_from_ne_true, not_from_false}}
 use Rattle.std.specs.List.{list_all, list_any}
 use Rattle.listed.proofs.{Lists.{none_listed, In_at, In_cases, In_none, all_from, any_from, filter_cases, filter_from, has_In}, Bools.{same_bool}}
 use Rattle.clause_pool.specs.{Interned.{Interned, IsPool, OfPool, clause_at, clauses_at, ids_at, row_at}, Lists.{InOrder}}

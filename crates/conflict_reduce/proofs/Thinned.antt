@@ -1,5 +1,6 @@
 -- Redundant conflicts.
-use Rattle.std.proofs.Common.{◌≡◌, ℕ, ◌<◌, Bool, true, false, not, ◌&&◌, ◌||◌, eqb, cond, List, [], ◌∷◌, length, inl, inr, refl, sym, ◌∙◌, ap, ap₂, subst, arith, eqb-true, filter, ◌↔◌}
+use Rattle.std.proofs.Common.{◌≡◌, ℕ, ◌<◌, Bool, true, false, not, ◌&&◌, ◌||◌, eqb, cond, List, [], ◌∷◌, length, inl, inr, refl, sym, ◌∙◌, ap, ap₂, subst}
+use Rattle.std.proofs.Common.{arith, eqb-true, filter, ◌↔◌}
 use Rattle.std.proofs.lemmas.Bool.{both_ways, cases_Bool, cases_lt, and_parts, and_from, and_left, or_cases, not_from_false, false_from_ne_true}
 use Rattle.row_book.specs.{Sets.{NumSet, Hit, Is}, Repository.{Repository, Healthy, against, conflicts_of}, Sound.{SoundRepository}, Facing.{sides}}
 use Rattle.row_book.specs.Thinning.{is_pair, against_but, without_pair, is_redundant, thin_pair, thin_over, conflicting_pairs, thin}

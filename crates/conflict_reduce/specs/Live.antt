@@ -2,7 +2,8 @@
 -- The clauses that can take part in thinning.
 use Rattle.std.specs.Prelude.{◌≡◌, ℕ, Bool, true, not, eqb, List, [], ◌∷◌, length, map, filter}
 use Rattle.clause_pool.specs.Interned.{Interned, clause_at, ids_at}
-use Rattle.row_book.specs.{declared.book.Book.{Book}, Numbers.{numbers}, Facing.{common_to}, Uses.{row_id}, Book.{Sound}}
+use Rattle.row_book.specs.{declared.book.Book.{Book}, Numbers.{numbers}, Facing.{common_to}}
+use Rattle.row_book.specs.{Uses.{row_id}, Book.{Sound}}
 use Rattle.conflict_reduce.specs.declared.live.LiveBook.{LiveBook}
 
 -- whether the clause is empty, or its members have a conflict in common

@@ -2,7 +2,8 @@
 -- The conflicts of a table that are not gone, without that of one pair.
 use Rattle.std.specs.{Prelude.{ℕ, Bool, List, filter}, List.{list_all}}
 use Rattle.row_book.specs.Book.{listed_for}
-use Rattle.conflict_reduce.specs.{declared.facing.OtherConflicts.{OtherConflicts}, Tests.{conflict_but, left_of}}
+use Rattle.conflict_reduce.specs.declared.facing.OtherConflicts.{OtherConflicts}
+use Rattle.conflict_reduce.specs.Tests.{conflict_but, left_of}
 
 -- whether m and n have such a conflict
 abbrev pub is_other_conflict : OtherConflicts → ℕ → ℕ → Bool

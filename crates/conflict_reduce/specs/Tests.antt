@@ -1,10 +1,12 @@
 -- for the bodies of this crate alone
 -- Thinning by a list of what is gone: the conflicts that are left of a table, and the pairs of one
 -- package.
-use Rattle.std.specs.Prelude.{◌≡◌, ℕ, ◌<◌, Bool, not, ◌&&◌, ltb, List, [], ◌∷◌, ◌++◌, ◌⊎◌, length, map, filter, cond, slice_set}
+use Rattle.std.specs.Prelude.{◌≡◌, ℕ, ◌<◌, Bool, not, ◌&&◌, ltb, List, [], ◌∷◌, ◌++◌, ◌⊎◌, length}
+use Rattle.std.specs.Prelude.{map, filter, cond, slice_set}
 use Rattle.clause_pool.specs.Interned.{Interned, row_at}
-use Rattle.row_book.specs.{declared.book.Book.{Book}, declared.pair.Pair.{Pair}, Numbers.{numbers}, Facing.{against_in}, Book.{listed_for}}
-use Rattle.row_book.specs.{Repository.{Repository}, Thinning.{is_pair, is_redundant}}
+use Rattle.row_book.specs.{declared.book.Book.{Book}, declared.pair.Pair.{Pair}, Numbers.{numbers}}
+use Rattle.row_book.specs.{Facing.{against_in}, Book.{listed_for}, Repository.{Repository}}
+use Rattle.row_book.specs.Thinning.{is_pair, is_redundant}
 use Rattle.listed.specs.Lists.{In}
 use Rattle.conflict_reduce.specs.Ascending.{AreAscending}
 

@@ -33,7 +33,8 @@ impl OtherConflicts<'_> {
     ghost use Rattle.std.specs.{Prelude.{◌≡◌, ◌∷◌, [], ℕ, List, IfOk}, List.{list_all, list_any}};
     ghost use Rattle.clause_pool.specs.{Interned.{clauses_at, OfPool, IsPool}, Lists.{InOrder}};
     ghost use Rattle.row_book.specs.Facing.{against_in, all_against, face};
-    ghost use Rattle.conflict_reduce.specs.{Others.{common_others, is_other_conflict}, Tests.{left_of}};
+    ghost use Rattle.conflict_reduce.specs.Others.{common_others, is_other_conflict};
+    ghost use Rattle.conflict_reduce.specs.Tests.{left_of};
 
     // Whether m and n conflict by the table, and not by what is gone.
     fn are_left(&self, m: u32, n: u32) -> bool
@@ -214,7 +215,8 @@ impl OtherConflicts<'_> {
 impl LiveBook<'_> {
     ghost use Rattle.std.specs.Prelude.{◌≡◌, ◌<◌, IfOk, length};
     ghost use Rattle.row_book.specs.Thinning.{is_redundant};
-    ghost use Rattle.conflict_reduce.specs.{Ascending.{AreAscending}, Live.{IsLiveBook}, Tests.{book_left}};
+    ghost use Rattle.conflict_reduce.specs.{Ascending.{AreAscending}, Live.{IsLiveBook}};
+    ghost use Rattle.conflict_reduce.specs.Tests.{book_left};
 
     /// Whether the packages of the pair exclude each other by other conflicts of the book that are
     /// left.

@@ -1,11 +1,13 @@
 //! Thinning of a book. The book's own conflicts stay in their lists, and those that are dropped are
-//! recorded in lists of their own. So no list is shifted for one that goes.
+//! recorded in lists of their own. So no list is shifted when one of its conflicts goes.
 ghost use Rattle.std.specs.Prelude.{◌≡◌, ◌<◌, ◌+◌, IfOk, OnOk, filter, length, not};
-ghost use Rattle.row_book.specs.{Book.{listed_for, repository_of, Sound}, Facing.{against_in}, Repository.{Repository}, Keeping.{KeepsHealthySets}};
+ghost use Rattle.row_book.specs.{Book.{listed_for, repository_of, Sound}, Facing.{against_in}};
+ghost use Rattle.row_book.specs.{Repository.{Repository}, Keeping.{KeepsHealthySets}};
 ghost use Rattle.row_book.specs.Thinning.{thin, thin_over};
 ghost use Rattle.listed.specs.Lists.{Ascending};
 ghost use Rattle.conflict_reduce.specs.{Ascending.{AreAscending}, Live.{IsLiveBook}};
-ghost use Rattle.conflict_reduce.specs.Tests.{book_left, gone_after, left_of, pairs_with, with_behind, with_gone, PassedBelow};
+ghost use Rattle.conflict_reduce.specs.Tests.{book_left, gone_after, left_of, pairs_with};
+ghost use Rattle.conflict_reduce.specs.Tests.{with_behind, with_gone, PassedBelow};
 
 use crate::live::{LiveBook, live_rows};
 use clause_pool::{NumList, Pool};

@@ -1,6 +1,7 @@
 -- Where a text is cut: at the first element that passes, and at the last.
-use Rattle.std.proofs.Common.{◌≡◌, ℕ, ◌+◌, ◌-◌, ◌<◌, Bool, true, false, cond, not, nat_lt, List, [], ◌∷◌, Option, Some, None, length, take, drop, reverse, refl, sym, ap, ◌∙◌, arith}
-use Rattle.std.proofs.{lemmas.Grind.{common_steps}, lemmas.List.Folds.{list_any-append}, lemmas.Bool.{lt-ltb, le-ltb, and_parts}, lemmas.Option.{cond_some}}
+use Rattle.std.proofs.Common.{◌≡◌, ℕ, ◌+◌, ◌-◌, ◌<◌, Bool, true, false, cond, not, nat_lt, List, [], ◌∷◌, Option, Some, None, length, take, drop, reverse, refl}
+use Rattle.std.proofs.{Common.{sym, ap, ◌∙◌, arith}, lemmas.Grind.{common_steps}, lemmas.List.Folds.{list_any-append}, lemmas.Bool.{lt-ltb, le-ltb, and_parts}}
+use Rattle.std.proofs.lemmas.Option.{cond_some}
 use Rattle.std.specs.{Prelude.{unwrap_or}, Char.{is_ascii_digit}, List.{list_all, list_any, position, position_or_len, suffix_len}}
 use Rattle.listed.proofs.{Lists.{any_by_first}, Bools.{left_out}}
 use Rattle.deb_version.specs.Grammar.{is_colon, is_hyphen, epoch_of, behind_epoch, upstream_in, revision_in, upstream_of, revision_of, are_parts, is_version}

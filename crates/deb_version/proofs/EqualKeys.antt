@@ -1,13 +1,14 @@
 -- Versions that compare as equal have the same key.
-use Rattle.std.proofs.Common.{◌≡◌, ℕ, zero, suc, ◌+◌, ◌-◌, ◌≤◌, Bool, true, false, cond, not, nat_lt, List, [], ◌∷◌, ◌++◌, length, drop, refl, sym, ap, ◌∙◌, ℤ, pos, negsuc, arith}
-use Rattle.std.proofs.{lemmas.Bool.{cond_both}, lemmas.Bool.Decides.{nat_tests}, lemmas.Cmp.{tied_itself, nat_cmp_total}, lemmas.List.Sums.{take_while-cons}}
-use Rattle.std.proofs.lemmas.Map.Lookups.{exact_signed, exact_unsigned, exact_bytes}
+use Rattle.std.proofs.Common.{◌≡◌, ℕ, zero, suc, ◌+◌, ◌-◌, ◌≤◌, Bool, true, false, cond, not, nat_lt, List, [], ◌∷◌, ◌++◌, length, drop, refl, sym, ap, ◌∙◌, ℤ}
+use Rattle.std.proofs.{Common.{pos, negsuc, arith}, lemmas.Bool.{cond_both}, lemmas.Bool.Decides.{nat_tests}, lemmas.Cmp.{tied_itself, nat_cmp_total}}
+use Rattle.std.proofs.{lemmas.List.Sums.{take_while-cons}, lemmas.Map.Lookups.{exact_signed, exact_unsigned, exact_bytes}}
 use Rattle.std.specs.{Prelude.{◌==◌, if◌then◌else◌, unwrap_or}, declared.cmp.Ordering.{Ordering}, declared.cmp.Ordering.TheVariants.{Less, Equal, Greater}}
 use Rattle.std.specs.{Char.{is_ascii_alphabetic, is_ascii_digit}, Cmp.Lexicographic.{slice_cmp}, List.{list_all, prefix_len, take_while}}
 use Rattle.std.specs.Ordering.{ordering_then, nat_cmp, int_cmp}
 use Rattle.deb_version.specs.Grammar.{epoch_of, upstream_of, is_version}
 use Rattle.deb_version.specs.Keys.{without_zeros, zero_before, number_before, number_key, front_key, part_key, epoch_key, version_key}
-use Rattle.deb_version.specs.Order.{number, is_plain, weight, weights, behind_plain, behind_digits, part_order, or_zero, epoch_number, full_revision, version_order}
+use Rattle.deb_version.specs.Order.{number, is_plain, weight, weights, behind_plain, behind_digits, part_order, or_zero, epoch_number, full_revision}
+use Rattle.deb_version.specs.Order.{version_order}
 use Rattle.deb_version.proofs.{Cutting.{epoch_digits}, KeySteps.{part_key-step, part_key-empty}, Numbers.{order_by_runs}}
 use Rattle.deb_version.proofs.PieceSteps.{behind_front, shorter-behind_front, length-behind_front, front_order, part_order-step, take_while-all}
 

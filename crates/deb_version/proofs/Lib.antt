@@ -8,3 +8,5 @@ pub mod TellingKeys
 pub mod TotalOrder
 pub mod Weights
 pub mod VersionSteps
+-- named here too, so that an attribute that cites it fits in a line
+pub use Rattle.std.proofs.Common.{append_assoc}

@@ -3,7 +3,8 @@ use Rattle.std.proofs.Common.{◌≡◌, ℕ, zero, suc, ◌+◌, ◌-◌, ◌<�
 use Rattle.std.proofs.{lemmas.Bool.{and_from}, lemmas.List.{length-drop}}
 use Rattle.std.specs.{declared.cmp.Ordering.{Ordering}, declared.cmp.Ordering.TheVariants.{Less, Equal, Greater}, Char.{is_ascii_digit}}
 use Rattle.std.specs.{Cmp.Lexicographic.{slice_cmp}, List.{prefix_len, take_while, list_all}, Ordering.{ordering_then, nat_cmp, int_cmp, is_ne}}
-use Rattle.deb_version.specs.Order.{number, is_plain, weights, behind_plain, behind_digits, behind, plain_piece, number_piece, pieces_order, first_difference, part_order}
+use Rattle.deb_version.specs.Order.{number, is_plain, weights, behind_plain, behind_digits, behind, plain_piece, number_piece, pieces_order, first_difference}
+use Rattle.deb_version.specs.Order.{part_order}
 
 then_equal : (o : Ordering) → ordering_then o Equal ≡ o
 then_equal Less = refl

@@ -1,6 +1,6 @@
 -- Versions that have the same key compare as equal: a part and its key have the same pieces.
-use Rattle.std.proofs.Common.{◌≡◌, ℕ, zero, suc, ◌+◌, ◌≤◌, Bool, true, false, cond, not, List, [], ◌∷◌, ◌++◌, length, take, drop, refl, sym, ap, ◌∙◌, append_assoc, arith}
-use Rattle.std.proofs.{lemmas.Bool.{and_parts, and_from, false≢true, not-true}, lemmas.Bool.Decides.{nat_tests}}
+use Rattle.std.proofs.Common.{◌≡◌, ℕ, zero, suc, ◌+◌, ◌≤◌, Bool, true, false, cond, not, List, [], ◌∷◌, ◌++◌, length, take, drop, refl, sym, ap, ◌∙◌}
+use Rattle.std.proofs.{Common.{append_assoc, arith}, lemmas.Bool.{and_parts, and_from, false≢true, not-true}, lemmas.Bool.Decides.{nat_tests}}
 use Rattle.std.proofs.{lemmas.Cmp.{tied_itself, tied_back, nat_cmp_total, int_cmp_total, lists_total}, lemmas.List.Folds.{list_all-append}}
 use Rattle.std.proofs.lemmas.List.Sums.{take_while-cons}
 use Rattle.std.specs.{Prelude.{◌==◌, unwrap_or, Option, Some, None}, declared.cmp.Ordering.TheVariants.{Equal}, Char.{is_ascii_digit}}

@@ -3,8 +3,8 @@ use Rattle.std.proofs.Common.{◌≡◌, ℕ, zero, suc, ◌+◌, true, false, l
 use Rattle.std.proofs.lemmas.Cmp.{nat_cmp_total, int_cmp_total, lists_total, on_total, then_total, tied_itself, upto}
 use Rattle.std.specs.{declared.cmp.Ordering.{Ordering}, declared.cmp.Ordering.TheVariants.{Less, Equal, Greater}, Cmp.{IsTotalOrder}}
 use Rattle.std.specs.Ordering.{ordering_reverse, is_le, is_gt}
-use Rattle.deb_version.specs.Order.{plain_piece, number_piece, pieces_order, first_difference, part_order, epoch_number, full_revision, version_order, IsTotalUpToTies}
-use Rattle.deb_version.specs.Grammar.{upstream_of}
+use Rattle.deb_version.specs.Order.{plain_piece, number_piece, pieces_order, first_difference, part_order, epoch_number, full_revision, version_order}
+use Rattle.deb_version.specs.{Order.{IsTotalUpToTies}, Grammar.{upstream_of}}
 use Rattle.deb_version.proofs.PieceSteps.{part_order-at}
 
 -- over parts, the comparison of the pieces at one number

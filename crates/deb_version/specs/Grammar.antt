@@ -4,8 +4,9 @@
 -- Three choices are this repository's own. An epoch has any number of digits; dpkg has a greatest
 -- one. The upstream part begins with any of its characters; Policy says that it should be a digit,
 -- and dpkg warns. It may hold a colon if there is an epoch, as dpkg takes it.
-use Rattle.std.specs.Prelude.{ℕ, Bool, true, ◌&&◌, ◌||◌, ◌==◌, nat_lt, if◌then◌else◌, Option, Some, None, List, length}
-use Rattle.std.specs.{Char.{is_ascii_alphanumeric, is_ascii_digit}, List.{list_all, list_any, before_first, after_first, before_last, after_last}}
+use Rattle.std.specs.Prelude.{ℕ, Bool, true, ◌&&◌, ◌||◌, ◌==◌, nat_lt, if◌then◌else◌, Option, Some}
+use Rattle.std.specs.{Prelude.{None, List, length}, Char.{is_ascii_alphanumeric, is_ascii_digit}}
+use Rattle.std.specs.List.{list_all, list_any, before_first, after_first, before_last, after_last}
 use Rattle.std.specs.Option.{option_map_or}
 
 abbrev pub is_colon : ℕ → Bool

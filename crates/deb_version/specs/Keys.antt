@@ -3,8 +3,10 @@
 -- none of the three. What does not count in the order of versions is left out. A run of digits is
 -- written without its leading zeros. A missing epoch and a missing revision count as `0`. A number
 -- 0 is written only if more of its part follows.
-use Rattle.std.specs.{Prelude.{ℕ, zero, suc, ◌==◌, List, [], ◌∷◌, ◌++◌, length, drop, unwrap_or}, Char.{is_ascii_digit}, List.{prefix_len, take_while}}
-use Rattle.deb_version.specs.{Grammar.{epoch_of, upstream_of}, Order.{is_plain, behind_plain, behind_digits, or_zero, full_revision}}
+use Rattle.std.specs.Prelude.{ℕ, zero, suc, ◌==◌, List, [], ◌∷◌, ◌++◌, length, drop, unwrap_or}
+use Rattle.std.specs.{Char.{is_ascii_digit}, List.{prefix_len, take_while}}
+use Rattle.deb_version.specs.Grammar.{epoch_of, upstream_of}
+use Rattle.deb_version.specs.Order.{is_plain, behind_plain, behind_digits, or_zero, full_revision}
 
 -- a run of digits without its leading zeros; the number 0 has no digit left
 abbrev pub without_zeros : List ℕ → List ℕ

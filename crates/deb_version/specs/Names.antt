@@ -1,7 +1,8 @@
 -- The names of packages. The first character is an ASCII letter of either case or a digit; any
 -- further one is such a character or one of `+ - . _`. This is wider than Debian Policy 5.6.1 and
 -- 5.6.7: these want at least two characters, no upper-case letter and no `_`.
-use Rattle.std.specs.{Prelude.{ℕ, Bool, false, ◌&&◌, ◌||◌, ◌==◌, List, [], ◌∷◌}, Char.{is_ascii_alphanumeric}, List.{list_all}}
+use Rattle.std.specs.Prelude.{ℕ, Bool, false, ◌&&◌, ◌||◌, ◌==◌, List, [], ◌∷◌}
+use Rattle.std.specs.{Char.{is_ascii_alphanumeric}, List.{list_all}}
 
 -- a letter, a digit or one of `+ - . _`
 abbrev pub is_name_byte : ℕ → Bool

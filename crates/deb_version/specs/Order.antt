@@ -2,9 +2,12 @@
 -- numbers, then by their upstream parts, then by their revisions. A part is cut into pieces from
 -- its front on: the longest front without digits, the longest front of digits, and so on. The first
 -- piece that differs decides.
-use Rattle.std.specs.Prelude.{◌≡◌, ℕ, zero, suc, ◌+◌, ◌-◌, ◌*◌, max, Bool, true, not, ◌⊎◌, ℤ, pos, negsuc, if◌then◌else◌, ◌==◌, List, [], ◌∷◌, ◌++◌, length, drop, map, unwrap_or}
-use Rattle.std.specs.{Char.{is_ascii_alphabetic, is_ascii_digit}, Cmp.Lexicographic.{slice_cmp}, List.{fold, prefix_len, take_while}}
-use Rattle.std.specs.{declared.cmp.Ordering.{Ordering}, declared.cmp.Ordering.TheVariants.{Equal}, Ordering.{ordering_then, nat_cmp, int_cmp, is_le}}
+use Rattle.std.specs.Prelude.{◌≡◌, ℕ, zero, suc, ◌+◌, ◌-◌, ◌*◌, max, Bool, true, not, ◌⊎◌, ℤ, pos}
+use Rattle.std.specs.Prelude.{negsuc, if◌then◌else◌, ◌==◌, List, [], ◌∷◌, ◌++◌, length, drop, map}
+use Rattle.std.specs.{Prelude.{unwrap_or}, Char.{is_ascii_alphabetic, is_ascii_digit}}
+use Rattle.std.specs.{Cmp.Lexicographic.{slice_cmp}, List.{fold, prefix_len, take_while}}
+use Rattle.std.specs.{declared.cmp.Ordering.{Ordering}, declared.cmp.Ordering.TheVariants.{Equal}}
+use Rattle.std.specs.Ordering.{ordering_then, nat_cmp, int_cmp, is_le}
 use Rattle.deb_version.specs.Grammar.{epoch_of, upstream_of, revision_of}
 
 -- the whole number that decimal digits write, of any size

@@ -1,7 +1,8 @@
 //! The bytes that may stand in names and in versions. A byte is looked up in a table, which is
 //! faster than comparing it with each range of bytes.
 ghost use Rattle.std.specs.Prelude.{◌≡◌};
-ghost use Rattle.deb_version.specs.{Names.{is_name_byte}, Grammar.{is_revision_byte, is_upstream_byte}};
+ghost use Rattle.deb_version.specs.Names.{is_name_byte};
+ghost use Rattle.deb_version.specs.Grammar.{is_revision_byte, is_upstream_byte};
 
 const NAME: u8 = 1;
 

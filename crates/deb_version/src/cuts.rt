@@ -1,6 +1,11 @@
 //! How a version is cut into its parts, and what may stand in them.
-ghost use Rattle.std.specs.{Prelude.{◌≡◌, ◌≤◌, true, not, length, IsTrue}, List.{position, suffix_len, list_all}, Option.{option_copied, option_map_or}};
-ghost use Rattle.deb_version.specs.Grammar.{is_colon, is_hyphen, epoch_of, behind_epoch, upstream_in, revision_in, upstream_of, revision_of, is_epoch, is_revision_byte, is_upstream_byte, is_upstream, is_revision, are_parts, is_version};
+ghost use Rattle.std.specs.Prelude.{◌≡◌, ◌≤◌, true, not, length, IsTrue};
+ghost use Rattle.std.specs.List.{position, suffix_len, list_all};
+ghost use Rattle.std.specs.Option.{option_copied, option_map_or};
+ghost use Rattle.deb_version.specs.Grammar.{is_colon, is_hyphen, epoch_of, behind_epoch};
+ghost use Rattle.deb_version.specs.Grammar.{upstream_in, revision_in, upstream_of, revision_of};
+ghost use Rattle.deb_version.specs.Grammar.{is_epoch, is_revision_byte, is_upstream_byte};
+ghost use Rattle.deb_version.specs.Grammar.{is_upstream, is_revision, are_parts, is_version};
 
 use crate::classes::{is_revision_byte, is_upstream_byte};
 use listed::has_digits_alone;

@@ -1,5 +1,6 @@
 //! Runs of digits as whole numbers of any size.
-ghost use Rattle.std.specs.{Prelude.{◌≡◌, true}, Char.{is_ascii_digit}, List.{list_all}, Ordering.{nat_cmp}};
+ghost use Rattle.std.specs.{Prelude.{◌≡◌, true}, Char.{is_ascii_digit}, List.{list_all}};
+ghost use Rattle.std.specs.Ordering.{nat_cmp};
 ghost use Rattle.deb_version.specs.{Keys.{without_zeros}, Order.{number}};
 
 use std::cmp::Ordering;

@@ -1,7 +1,9 @@
 //! The order of two upstream parts, or of two revisions.
-ghost use Rattle.std.specs.{Prelude.{◌≡◌, ◌≤◌, ◌<◌, true, length, drop}, Char.{is_ascii_digit}, Cmp.Lexicographic.{slice_cmp}};
-ghost use Rattle.std.specs.{List.{list_all, prefix_len, take_while}, Ordering.{ordering_then, nat_cmp, int_cmp}};
-ghost use Rattle.deb_version.specs.Order.{number, is_plain, weight, weights, weight_at_front, behind_plain, behind_digits, part_order};
+ghost use Rattle.std.specs.{Prelude.{◌≡◌, ◌≤◌, ◌<◌, true, length, drop}, Char.{is_ascii_digit}};
+ghost use Rattle.std.specs.{Cmp.Lexicographic.{slice_cmp}, List.{list_all, prefix_len, take_while}};
+ghost use Rattle.std.specs.Ordering.{ordering_then, nat_cmp, int_cmp};
+ghost use Rattle.deb_version.specs.Order.{number, is_plain, weight, weights, weight_at_front};
+ghost use Rattle.deb_version.specs.Order.{behind_plain, behind_digits, part_order};
 
 use crate::digits::order_numbers;
 use std::cmp::Ordering;

@@ -1,6 +1,9 @@
 //! The versions of packages and their order.
-ghost use Rattle.std.specs.{Prelude.{◌≡◌, ◌++◌, true, false, List, ℕ, IfOk, IfErr, OnOk, unwrap_or}, Cmp.{IsTotalOrder}, Option.{option_copied}};
-ghost use Rattle.deb_version.specs.{Grammar.{is_version}, Order.{version_order, or_zero, IsTotalUpToTies}, Keys.{version_key}, Refusals.{OnShape}};
+ghost use Rattle.std.specs.Prelude.{◌≡◌, ◌++◌, true, false, List, ℕ, IfOk, IfErr, OnOk, unwrap_or};
+ghost use Rattle.std.specs.{Cmp.{IsTotalOrder}, Option.{option_copied}};
+ghost use Rattle.deb_version.specs.Grammar.{is_version};
+ghost use Rattle.deb_version.specs.Order.{version_order, or_zero, IsTotalUpToTies};
+ghost use Rattle.deb_version.specs.{Keys.{version_key}, Refusals.{OnShape}};
 
 use crate::cuts::{cut, is_well_formed};
 use crate::digits::{order_numbers, without_zeros};
@@ -86,7 +89,7 @@ impl Version {
 
     /// Appends the key, so that a longer key can hold it without a copy. Without memory a part of
     /// it may be written.
-    #[tactic(auto, using(std::proofs::Common::append_assoc), unfolding(crate::specs::Keys::version_key))]
+    #[tactic(auto, using(crate::proofs::append_assoc), unfolding(crate::specs::Keys::version_key))]
     pub fn push_key(&self, out: &mut Vec<u8>) -> Result<(), AllocError>
         ensures { OnOk result (out.new.items ≡ out.old.items ++ version_key self.now) }
     {

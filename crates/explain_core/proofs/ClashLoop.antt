@@ -1,7 +1,7 @@
 -- The conflicts that matter, pair by pair.
-use Rattle.std.proofs.Common.{◌≡◌, ℕ, zero, suc, ◌+◌, ◌-◌, ◌<◌, ◌≤◌, ◌⊎◌, true, false, Some, None, take, List, [], ◌∷◌, ◌++◌, length, get_or, drop, map, inl, inr, refl, sym, ap, ◌∙◌, subst, arith}
-use Rattle.std.proofs.{lemmas.Bool.{cases_Bool}, lemmas.List.{drop-drop, drop_all, drop_more, length-drop, map-append, take-append-drop, take_all}}
-use Rattle.std.proofs.Math.Seq.{drop-nil}
+use Rattle.std.proofs.Common.{◌≡◌, ℕ, zero, suc, ◌+◌, ◌-◌, ◌<◌, ◌≤◌, ◌⊎◌, true, false, Some, None, take, List, [], ◌∷◌, ◌++◌, length, get_or, drop, map, inl}
+use Rattle.std.proofs.{Common.{inr, refl, sym, ap, ◌∙◌, subst, arith}, lemmas.Bool.{cases_Bool}}
+use Rattle.std.proofs.{lemmas.List.{drop-drop, drop_all, drop_more, length-drop, map-append, take-append-drop, take_all}, Math.Seq.{drop-nil}}
 use Rattle.std.specs.{Prelude.{is_some, ltb}, Option.{option_map}}
 use Rattle.listed.proofs.Lists.{in_take, In_drop, In_append_cases, In_append_left, In_append_right, In_cases, In_none}
 use Rattle.clause_pool.specs.Interned.{Interned, row_at}

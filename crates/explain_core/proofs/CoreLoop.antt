@@ -1,6 +1,6 @@
 -- The core, goal by goal, over a view of the suite.
-use Rattle.std.proofs.Common.{◌≡◌, ℕ, zero, suc, ◌+◌, ◌-◌, ◌<◌, ◌≤◌, true, false, List, [], ◌∷◌, ◌++◌, length, drop, map, inl, inr, refl, sym, ap, ◌∙◌, subst, arith}
-use Rattle.std.proofs.lemmas.List.{drop-map, map-append, length-map}
+use Rattle.std.proofs.Common.{◌≡◌, ℕ, zero, suc, ◌+◌, ◌-◌, ◌<◌, ◌≤◌, true, false, List, [], ◌∷◌, ◌++◌, length, drop, map, inl, inr, refl, sym, ap, ◌∙◌, subst}
+use Rattle.std.proofs.{Common.{arith}, lemmas.List.{drop-map, map-append, length-map}}
 use Rattle.std.specs.List.{range_with_len}
 use Rattle.clause_pool.specs.Interned.{Interned}
 use Rattle.clause_solver.specs.{Verdicts.{IsSearchVerdict}, declared.outcomes.Verdict.{Verdict}, declared.outcomes.Verdict.TheVariants.{Yes, No, Spent}}

@@ -1,7 +1,7 @@
 -- Packages that are met one after another, and what is within reach by them.
-use Rattle.std.proofs.Common.{◌≡◌, ℕ, zero, suc, ◌+◌, ◌<◌, ◌≤◌, Bool, true, false, List, [], ◌∷◌, ◌++◌, ◌⊎◌, inl, inr, length, get_or, take, map, refl, sym, ap, ◌∙◌, subst, arith, append_assoc}
-use Rattle.std.proofs.{lemmas.Bool.{cases_lt}, lemmas.List.{append-nil, length-append, map-append, take_more, get_or_default}}
-use Rattle.std.proofs.lemmas.List.Folds.{concat-append}
+use Rattle.std.proofs.Common.{◌≡◌, ℕ, zero, suc, ◌+◌, ◌<◌, ◌≤◌, Bool, true, false, List, [], ◌∷◌, ◌++◌, ◌⊎◌, inl, inr, length, get_or, take, map, refl, sym, ap}
+use Rattle.std.proofs.{Common.{◌∙◌, subst, arith, append_assoc}, lemmas.Bool.{cases_lt}}
+use Rattle.std.proofs.{lemmas.List.{append-nil, length-append, map-append, take_more, get_or_default}, lemmas.List.Folds.{concat-append}}
 use Rattle.std.specs.List.{concat}
 use Rattle.row_book.specs.{Flags.{flag}, Needs.{NeedsFit}, Repository.{Repository, clauses_of}, Book.{repository_of, Sound}, Uses.{row_id}}
 use Rattle.row_book.specs.declared.book.Book.{Book}

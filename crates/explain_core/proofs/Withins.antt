@@ -1,10 +1,11 @@
 -- The conflicts within reach are all that a search for the goals can meet.
-use Rattle.std.proofs.Common.{◌≡◌, ℕ, ◌+◌, ◌<◌, Bool, true, false, ◌&&◌, ◌||◌, eqb, List, [], ◌∷◌, ◌++◌, inl, inr, length, map, filter, refl, sym, ap, ◌∙◌, subst, arith}
+use Rattle.std.proofs.Common.{◌≡◌, ℕ, ◌+◌, ◌<◌, Bool, true, false, ◌&&◌, ◌||◌, eqb, List, [], ◌∷◌, ◌++◌, inl, inr, length, map, filter, refl, sym, ap, ◌∙◌}
+use Rattle.std.proofs.Common.{subst, arith}
 use Rattle.std.proofs.lemmas.Bool.{cases_lt, and_parts, and_from, or_left, or_right, both_ways, ltb-true, lt-ltb, eq-eqb, false_from_ne_true}
 use Rattle.std.proofs.{lemmas.List.{append-nil}, lemmas.List.Concat.{flat_map-append}}
 use Rattle.std.specs.{Prelude.{ltb}, List.{flat_map, range_with_len}}
-use Rattle.listed.proofs.Lists.{In_flat_cases, In_flat, In_append_cases, In_append_left, In_append_right, In_cases, In_has, In_map, In_map_cases, In_none, any_from, filter_cases, filter_from, has_In}
-use Rattle.listed.proofs.Numbers.{number_kept, number_left}
+use Rattle.listed.proofs.Lists.{In_flat_cases, In_flat, In_append_cases, In_append_left, In_append_right, In_cases, In_has, In_map, In_map_cases, In_none}
+use Rattle.listed.proofs.{Lists.{any_from, filter_cases, filter_from, has_In}, Numbers.{number_kept, number_left}}
 use Rattle.row_book.specs.{Book.{are_paired, PairsFit}, Repository.{Repository, against, conflicts_of}, Sets.{Hit, Is, NumSet}, Sound.{SoundRepository}}
 use Rattle.row_book.specs.declared.pair.Pair.{Pair}
 use Rattle.listed.specs.Lists.{In, here, there}

@@ -1,7 +1,9 @@
 -- The core of goals that cannot be installed together: those of them that matter for it.
-use Rattle.std.specs.{Prelude.{ℕ, Bool, ◌-◌, List, [], length, map, slice_index_or}, List.{range_with_len}}
+use Rattle.std.specs.Prelude.{ℕ, Bool, ◌-◌, List, [], length, map, slice_index_or}
+use Rattle.std.specs.List.{range_with_len}
 use Rattle.clause_solver.specs.declared.outcomes.Verdict.{Verdict}
-use Rattle.relation_fields.specs.{declared.packages.Home.{Home}, declared.packages.PackageFacts.{PackageFacts}}
+use Rattle.relation_fields.specs.declared.packages.Home.{Home}
+use Rattle.relation_fields.specs.declared.packages.PackageFacts.{PackageFacts}
 use Rattle.repo_model.specs.{Goals.{any_version}, declared.goals.Goal.{Goal}}
 use Rattle.suite_compare.specs.Asking.{verdict_in}
 use Rattle.explain_core.specs.{Deletion.{KeptItem, kept_of}, declared.explanation.Mark.{Mark}}

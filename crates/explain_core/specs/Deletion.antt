@@ -1,7 +1,8 @@
 -- Lists from which one item after another is left out, as long as what is left still has the
 -- verdict no. A minimal unsatisfiable set of clauses is found in this way by deletion.
 use Rattle.std.specs.Prelude.{Bool, true, false, List, [], ◌∷◌, ◌++◌, map}
-use Rattle.clause_solver.specs.{declared.outcomes.Verdict.{Verdict}, declared.outcomes.Verdict.TheVariants.{Yes, No, Spent}}
+use Rattle.clause_solver.specs.declared.outcomes.Verdict.{Verdict}
+use Rattle.clause_solver.specs.declared.outcomes.Verdict.TheVariants.{Yes, No, Spent}
 
 -- an item that stays, and whether it is open if it has to
 pub record KeptItem (X : Type 0) : Type 0 where

@@ -2,12 +2,16 @@
 use Rattle.std.specs.{Prelude.{⊤, ℕ, Bool, ◌+◌, List, Option}, Option.{option_map}}
 use Rattle.clause_solver.specs.declared.outcomes.Verdict.{Verdict}
 use Rattle.clause_solver.specs.declared.outcomes.Verdict.TheVariants as verdict
-use Rattle.relation_fields.specs.{declared.packages.Home.{Home}, declared.packages.PackageFacts.{PackageFacts}}
+use Rattle.relation_fields.specs.declared.packages.Home.{Home}
+use Rattle.relation_fields.specs.declared.packages.PackageFacts.{PackageFacts}
 use Rattle.repo_model.specs.{Repository.{suite_repository}, declared.goals.Goal.{Goal}}
 use Rattle.suite_compare.specs.Asking.{verdict_in, wanted_by}
-use Rattle.explain_core.specs.{Core.{goal_core, marked_goals, marks_of}, Reasons.{clashes_of, reasons_of}, declared.explanation.Clash.{Clash}}
-use Rattle.explain_core.specs.{declared.explanation.Mark.{Mark}, declared.explanation.Explanation.{Explanation}}
-use Rattle.explain_core.specs.{declared.explanation.Explanation.TheVariants.{Yes, Spent, Core}, declared.explanation.ExplainError.{ExplainError}}
+use Rattle.explain_core.specs.Core.{goal_core, marked_goals, marks_of}
+use Rattle.explain_core.specs.{Reasons.{clashes_of, reasons_of}, declared.explanation.Clash.{Clash}}
+use Rattle.explain_core.specs.declared.explanation.Mark.{Mark}
+use Rattle.explain_core.specs.declared.explanation.Explanation.{Explanation}
+use Rattle.explain_core.specs.declared.explanation.Explanation.TheVariants.{Yes, Spent, Core}
+use Rattle.explain_core.specs.declared.explanation.ExplainError.{ExplainError}
 use Rattle.explain_core.specs.declared.explanation.ExplainError.TheVariants.{Unknown, Memory}
 
 -- the conflicts that matter for the marked goals, each goal the set of the packages that it names

@@ -1,12 +1,16 @@
 -- What an explanation says of the goals, judged on the stanzas, and of the conflicts.
 use Rattle.std.specs.Prelude.{◌≡◌, ℕ, false, List, ◌∷◌, ◌++◌, IfSome}
-use Rattle.relation_fields.specs.{declared.packages.Home.{Home}, declared.packages.PackageFacts.{PackageFacts}}
-use Rattle.repo_model.specs.{Goals.{CoinstGoals}, Repository.{suite_repository}, declared.goals.Goal.{Goal}}
+use Rattle.relation_fields.specs.declared.packages.Home.{Home}
+use Rattle.relation_fields.specs.declared.packages.PackageFacts.{PackageFacts}
+use Rattle.repo_model.specs.{Goals.{CoinstGoals}, Repository.{suite_repository}}
+use Rattle.repo_model.specs.declared.goals.Goal.{Goal}
 use Rattle.row_book.specs.{Repository.{Repository}, Sets.{NumSet}}
 use Rattle.search_terms.specs.Laws.{HasNoSolution, Solves}
 use Rattle.suite_compare.specs.Asking.{wanted_by}
-use Rattle.explain_core.specs.{Core.{marked_goals}, Only.{only}, Reasons.{clash_pairs}, declared.explanation.Clash.{Clash}, declared.explanation.Mark.{Mark}}
-use Rattle.explain_core.specs.{declared.explanation.Explanation.{Explanation}, declared.explanation.Explanation.TheVariants.{Yes, Spent, Core}}
+use Rattle.explain_core.specs.{Core.{marked_goals}, Only.{only}, Reasons.{clash_pairs}}
+use Rattle.explain_core.specs.{declared.explanation.Clash.{Clash}, declared.explanation.Mark.{Mark}}
+use Rattle.explain_core.specs.declared.explanation.Explanation.{Explanation}
+use Rattle.explain_core.specs.declared.explanation.Explanation.TheVariants.{Yes, Spent, Core}
 
 -- the marked goals are not co-installable, and without any one of them that is not open they are
 pub record IsCoreOf (home : Home) (stanzas : List PackageFacts) (goals : List Goal)

@@ -1,6 +1,7 @@
 -- for the bodies of this crate alone
 -- Packages that were met, in their order, with a flag for each package.
-use Rattle.std.specs.Prelude.{◌≡◌, ℕ, ◌+◌, ◌<◌, ◌≤◌, Bool, not, List, ◌++◌, count_by, length, slice_index_or}
+use Rattle.std.specs.Prelude.{◌≡◌, ℕ, ◌+◌, ◌<◌, ◌≤◌, Bool, not, List, ◌++◌, count_by, length}
+use Rattle.std.specs.Prelude.{slice_index_or}
 use Rattle.row_book.specs.{Flags.{flag}, Repository.{Repository, clauses_of}, Sets.{Is, NumSet}}
 use Rattle.listed.specs.Lists.{In, has}
 use Rattle.explain_core.specs.Reach.{HoldsNeeds}

@@ -1,11 +1,15 @@
 -- What an explanation says, judged on the stanzas alone, and that it names goals and packages that
 -- are there.
 use Rattle.std.specs.Prelude.{⊤, ◌≡◌, ℕ, ◌<◌, Bool, true, false, List, ◌∷◌, ◌++◌, length, IfSome}
-use Rattle.explain_core.specs.{Core.{marked_goals}, Explaining.{explanation_of}, Meaning.{IsCoreOf}, declared.explanation.Clash.{Clash}}
-use Rattle.explain_core.specs.{Picking.{ArePlacesFrom1}, declared.explanation.Explanation.{Explanation}}
+use Rattle.explain_core.specs.{Core.{marked_goals}, Explaining.{explanation_of}, Meaning.{IsCoreOf}}
+use Rattle.explain_core.specs.{declared.explanation.Clash.{Clash}, Picking.{ArePlacesFrom1}}
+use Rattle.explain_core.specs.declared.explanation.Explanation.{Explanation}
 use Rattle.explain_core.specs.declared.explanation.Explanation.TheVariants.{Yes, Spent, Core}
-use Rattle.relation_fields.specs.{declared.packages.Home.{Home}, declared.packages.PackageFacts.{PackageFacts}, declared.relations.Atom.{Atom}}
-use Rattle.repo_model.specs.{Goals.{CoinstGoals, HasOneFor}, Repository.{in_conflict}, Stanzas.{Met, stanza_at}, declared.goals.Goal.{Goal}}
+use Rattle.relation_fields.specs.declared.packages.Home.{Home}
+use Rattle.relation_fields.specs.declared.packages.PackageFacts.{PackageFacts}
+use Rattle.relation_fields.specs.declared.relations.Atom.{Atom}
+use Rattle.repo_model.specs.{Goals.{CoinstGoals, HasOneFor}, Repository.{in_conflict}}
+use Rattle.repo_model.specs.{Stanzas.{Met, stanza_at}, declared.goals.Goal.{Goal}}
 use Rattle.listed.specs.Lists.{In}
 use Rattle.row_book.specs.Sets.{Is, NumSet}
 use Rattle.search_terms.specs.Tree.{failed_leaves}

@@ -1,6 +1,8 @@
 -- Repositories with the clauses of another and with chosen conflicts.
-use Rattle.std.specs.{Prelude.{ℕ, ◌&&◌, ltb, List, filter, length, map}, List.{flat_map, range_with_len}}
-use Rattle.row_book.specs.{Book.{lists_of_pairs}, Repository.{Repository, conflicts_of}, Sets.{NumSet}, declared.pair.Pair.{Pair}}
+use Rattle.std.specs.Prelude.{ℕ, ◌&&◌, ltb, List, filter, length, map}
+use Rattle.std.specs.List.{flat_map, range_with_len}
+use Rattle.row_book.specs.{Book.{lists_of_pairs}, Repository.{Repository, conflicts_of}}
+use Rattle.row_book.specs.{Sets.{NumSet}, declared.pair.Pair.{Pair}}
 
 -- two packages
 abbrev pub pair : ℕ → ℕ → Pair

@@ -2,7 +2,8 @@
 -- of the goals, and with a package each member of its clauses.
 use Rattle.std.specs.{Prelude.{ℕ, Bool, not, ◌&&◌, ◌||◌, List, length}, List.{list_all}}
 use Rattle.listed.specs.Lists.{is_inside, In, has}
-use Rattle.row_book.specs.{Numbers.{subsets}, Repository.{Repository, clauses_of}, Sets.{NumSet, Is, Within}}
+use Rattle.row_book.specs.{Numbers.{subsets}, Repository.{Repository, clauses_of}}
+use Rattle.row_book.specs.Sets.{NumSet, Is, Within}
 
 -- the set has the packages of the goals, and with a package each member of its clauses
 pub record HoldsNeeds (R : Repository) (goals : List (List ℕ)) (S : NumSet) : Type 0 where

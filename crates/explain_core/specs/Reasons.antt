@@ -1,11 +1,14 @@
--- The conflicts that matter for it that goals, each a set of packages, cannot be installed
--- together.
-use Rattle.std.specs.Prelude.{ℕ, Bool, true, false, List, nat_lt, if◌then◌else◌, Option, Some, None, map}
-use Rattle.clause_solver.specs.{declared.outcomes.Verdict.{Verdict}, declared.outcomes.Verdict.TheVariants.{Yes, No, Spent}}
+-- Which conflicts are the reason that goals cannot be installed together. Each goal is a set of
+-- packages.
+use Rattle.std.specs.Prelude.{ℕ, Bool, true, false, List, nat_lt, if◌then◌else◌, Option, Some, None}
+use Rattle.std.specs.Prelude.{map}
+use Rattle.clause_solver.specs.declared.outcomes.Verdict.{Verdict}
+use Rattle.clause_solver.specs.declared.outcomes.Verdict.TheVariants.{Yes, No, Spent}
 use Rattle.row_book.specs.{Repository.{Repository}, declared.pair.Pair.{Pair}}
 use Rattle.search_terms.specs.Tree.{Tree, failed_leaves}
 use Rattle.suite_compare.specs.Asking.{tree_of, verdict_of}
-use Rattle.explain_core.specs.{Deletion.{KeptItem, kept_of}, Only.{conflicts_within, only, pair}, Reach.{reach_of}, declared.explanation.Clash.{Clash}}
+use Rattle.explain_core.specs.{Deletion.{KeptItem, kept_of}, Only.{conflicts_within, only, pair}}
+use Rattle.explain_core.specs.{Reach.{reach_of}, declared.explanation.Clash.{Clash}}
 
 -- the search tree of the goals over packages, if only these pairs conflict
 abbrev pub tree_over : Repository → List (List ℕ) → List Pair → Tree

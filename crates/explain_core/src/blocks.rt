@@ -1,8 +1,8 @@
-//! How many items are left out at once. The block doubles after a success, halves after a failure,
-//! and is one item as soon as what is left does not clash at once.
+//! How many items are left out at once: they are a block. The block doubles after a success, and
+//! halves after a failure. It is one item as soon as what is left does not clash at the root.
 //!
-//! If the others clash at the root without a whole block, each greater set does too. So leaving out
-//! one by one would have dropped every item of it.
+//! If the items outside a block clash at the root, each greater set of items does too. So one by
+//! one, every item of the block would have been dropped as well.
 ghost use Rattle.std.specs.Prelude.{◌≡◌, ◌<◌, ◌≤◌, ◌*◌};
 ghost use Rattle.explain_core.specs.Deletion.{is_no};
 

@@ -2,8 +2,11 @@
 //! the others finds nothing.
 ghost use Rattle.std.specs.{Prelude.{◌≡◌, ◌++◌, IfOk, OnOk, length}, Option.{option_map}};
 ghost use Rattle.clause_solver.specs.Outcomes.{IsBudget};
-ghost use Rattle.row_book.specs.{Book.{repository_of, PairsFit}, Lent.{repository_in}, Needs.{NeedsFit}, declared.pair.Pair.{Pair}};
-ghost use Rattle.explain_core.specs.{Deletion.{is_no, kept_by, kept_of}, Reasons.{clashes_of, is_spent_verdict, reasons_of, clash_pairs, verdict_over}};
+ghost use Rattle.row_book.specs.{Book.{repository_of, PairsFit}, Lent.{repository_in}};
+ghost use Rattle.row_book.specs.{Needs.{NeedsFit}, declared.pair.Pair.{Pair}};
+ghost use Rattle.explain_core.specs.Deletion.{is_no, kept_by, kept_of};
+ghost use Rattle.explain_core.specs.Reasons.{clashes_of, is_spent_verdict, reasons_of, clash_pairs};
+ghost use Rattle.explain_core.specs.Reasons.{verdict_over};
 
 use crate::blocks::{block_behind, count_of, half, is_no, twice};
 use crate::conflicts::conflicts_within;

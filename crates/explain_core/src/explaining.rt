@@ -2,7 +2,8 @@
 ghost use Rattle.std.specs.Prelude.{◌≡◌, None, Some, IfOk, IfErr, OnOk};
 ghost use Rattle.clause_solver.specs.Outcomes.{IsBudget};
 ghost use Rattle.suite_compare.specs.Answering.{unknown_goal};
-ghost use Rattle.explain_core.specs.{Explaining.{explanation_of, OnUnknownGoal}, Meaning.{MeansExplanation}};
+ghost use Rattle.explain_core.specs.Explaining.{explanation_of, OnUnknownGoal};
+ghost use Rattle.explain_core.specs.Meaning.{MeansExplanation};
 
 use crate::asking::{classes_of, wanted_by};
 use crate::clashes::clashes_for;

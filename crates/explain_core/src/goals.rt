@@ -4,7 +4,8 @@ ghost use Rattle.std.specs.Prelude.{◌≡◌, ◌-◌, ◌≤◌, ◌<◌, ◌+
 ghost use Rattle.clause_solver.specs.Outcomes.{IsBudget};
 ghost use Rattle.row_book.specs.{Book.{repository_of}, Needs.{NeedsFit}};
 ghost use Rattle.suite_compare.specs.Asking.{images_of, tree_of, verdict_of};
-ghost use Rattle.explain_core.specs.{Core.{goal_core, marks_of}, Deletion.{is_no, kept_by}, Picking.{picked, ArePlacesFrom1}};
+ghost use Rattle.explain_core.specs.{Core.{goal_core, marks_of}, Deletion.{is_no, kept_by}};
+ghost use Rattle.explain_core.specs.Picking.{picked, ArePlacesFrom1};
 
 use crate::blocks::{block_behind, count_of, half, is_no, twice};
 use crate::explanation::{Mark, MarkList};

@@ -1,5 +1,6 @@
 //! The laws of explanations: the functions do nothing, and the contract of each is one law.
-ghost use Rattle.explain_core.specs.{Laws.{ReachIsLeast}, OnStanzas.{ExplanationsAreTellable, ExplanationsHold}};
+ghost use Rattle.explain_core.specs.Laws.{ReachIsLeast};
+ghost use Rattle.explain_core.specs.OnStanzas.{ExplanationsAreTellable, ExplanationsHold};
 
 /// The test of the packages within reach is the least set that has the packages of the goals and,
 /// with a package, the members of its clauses.

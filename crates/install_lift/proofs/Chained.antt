@@ -1,8 +1,8 @@
 -- Chains of entries that grow.
-use Rattle.std.proofs.Common.{◌≡◌, ℕ, zero, suc, ◌+◌, ◌-◌, ◌<◌, ◌≤◌, List, [], ◌∷◌, ◌++◌, length, get_or, set, map, replicate, refl, ap, sym, ◌∙◌, arith, inl, inr}
-use Rattle.std.proofs.lemmas.Bool.{cases_eq}
-use Rattle.std.proofs.lemmas.List.{append_assoc, append-nil, length_push, length-map, length-replicate, map-set, get_or_append_left, get_or-map, get_or-set_same, get_or-set_other}
-use Rattle.std.proofs.{lemmas.Grind.{get_or_default_zero}, Math.Seq.{get_or-append_seam}}
+use Rattle.std.proofs.Common.{◌≡◌, ℕ, zero, suc, ◌+◌, ◌-◌, ◌<◌, ◌≤◌, List, [], ◌∷◌, ◌++◌, length, get_or, set, map, replicate, refl, ap, sym, ◌∙◌, arith, inl}
+use Rattle.std.proofs.{Common.{inr}, lemmas.Bool.{cases_eq}}
+use Rattle.std.proofs.lemmas.List.{append_assoc, append-nil, length_push, length-map, length-replicate, map-set, get_or_append_left, get_or-map}
+use Rattle.std.proofs.{lemmas.List.{get_or-set_same, get_or-set_other}, lemmas.Grind.{get_or_default_zero}, Math.Seq.{get_or-append_seam}}
 use Rattle.row_book.specs.Book.{listed_for}
 use Rattle.install_lift.specs.{Chains.{entry_at, chain, chains_of, Falls, AreChains}, declared.user_table.Entry.{Entry}}
 

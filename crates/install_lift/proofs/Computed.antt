@@ -1,7 +1,8 @@
 -- What is computed is the lift, and the trim.
-use Rattle.std.proofs.Common.{◌≡◌, ℕ, zero, suc, ◌+◌, ◌<◌, ◌≤◌, Bool, true, false, not, ◌&&◌, ◌||◌, eqb, cond, List, [], ◌∷◌, ◌++◌, ◌⊎◌, length, refl, ap, sym, ◌∙◌, arith, inl, inr, subst, Option, Some, None}
-use Rattle.std.proofs.Math.ListN.{get_or-eq_default}
-use Rattle.std.proofs.lemmas.Bool.{cases_Bool, cases_eq, cases_lt, and_parts, and_from, or_right, both_ways, false_from_ne_true, not-true, not_from_false, eqb-true, eq-eqb}
+use Rattle.std.proofs.Common.{◌≡◌, ℕ, zero, suc, ◌+◌, ◌<◌, ◌≤◌, Bool, true, false, not, ◌&&◌, ◌||◌, eqb, cond, List, [], ◌∷◌, ◌++◌, ◌⊎◌, length, refl, ap, sym}
+use Rattle.std.proofs.{Common.{◌∙◌, arith, inl, inr, subst, Option, Some, None}, Math.ListN.{get_or-eq_default}}
+use Rattle.std.proofs.lemmas.Bool.{cases_Bool, cases_eq, cases_lt, and_parts, and_from, or_right, both_ways, false_from_ne_true, not-true, not_from_false}
+use Rattle.std.proofs.lemmas.Bool.{eqb-true, eq-eqb}
 use Rattle.std.specs.{List.{list_any, find, flat_map}, Option.{option_and_then}}
 use Rattle.listed.proofs.Lists.{none_in, In_none, In_at, In_has, In_append_cases, has_In, any_from, any_cases, any_none, all_from, all_at}
 use Rattle.listed.proofs.Bools.{cases_Option, lighter}

@@ -1,6 +1,6 @@
 -- A healthy set of the kernel, taken back through the rounds.
-use Rattle.std.proofs.Common.{◌≡◌, ℕ, zero, suc, ◌<◌, Bool, true, false, not, ◌&&◌, ltb, eqb, cond, List, [], ◌∷◌, ◌++◌, length, map, refl, sym, ◌∙◌, ap, subst, inl, inr, slice_index_or}
-use Rattle.std.proofs.{Math.Path.{fun_ext}, lemmas.Bool.{cases_lt, and_from, or_left, lt-ltb, le-ltb}}
+use Rattle.std.proofs.Common.{◌≡◌, ℕ, zero, suc, ◌<◌, Bool, true, false, not, ◌&&◌, ltb, eqb, cond, List, [], ◌∷◌, ◌++◌, length, map, refl, sym, ◌∙◌, ap, subst}
+use Rattle.std.proofs.{Common.{inl, inr, slice_index_or}, Math.Path.{fun_ext}, lemmas.Bool.{cases_lt, and_from, or_left, lt-ltb, le-ltb}}
 use Rattle.std.specs.List.{list_any}
 use Rattle.row_book.specs.{Sets.{NumSet, Is, plus, union}, Repository.{Repository, Healthy}, Support.{IsRow}, Sound.{SoundRepository}}
 use Rattle.row_book.specs.{Flattening.{core_of, flat}, Merging.{class_of, class_list, firsts, members, quotient}}

@@ -1,10 +1,11 @@
 -- Taking out what is not served.
-use Rattle.std.proofs.Common.{◌≡◌, ◌≢◌, ℕ, zero, suc, ◌+◌, ◌*◌, ◌<◌, ◌≤◌, Bool, true, false, ◌||◌, eqb, cond, List, [], ◌∷◌, ◌++◌, ◌⊎◌, length, get_or, set, refl, ap, sym, ◌∙◌, arith, inl, inr, subst, eqb-true, map, replicate}
+use Rattle.std.proofs.Common.{◌≡◌, ◌≢◌, ℕ, zero, suc, ◌+◌, ◌*◌, ◌<◌, ◌≤◌, Bool, true, false, ◌||◌, eqb, cond, List, [], ◌∷◌, ◌++◌, ◌⊎◌, length, get_or, set}
+use Rattle.std.proofs.Common.{refl, ap, sym, ◌∙◌, arith, inl, inr, subst, eqb-true, map, replicate}
 use Rattle.std.proofs.lemmas.Bool.{cases_Bool, cases_eq, cases_lt, or_cases, or_left, or_right, both_ways, false_from_ne_true}
 use Rattle.std.proofs.lemmas.List.{length-map, length-replicate, get_or-replicate, get_or_past, get_or-set_same, get_or-set_other}
 use Rattle.std.proofs.lemmas.List.Sums.{sum_by-set, sum_by-cons}
 use Rattle.std.specs.{Prelude.{count_by}, List.{list_any, sum_by}}
-use Rattle.listed.proofs.Lists.{none_in, In_cases, In_none, In_has, has_In, In_append_cases, item_in, any_from, any_cases, all_from, all_at}
+use Rattle.listed.proofs.Lists.{none_in, In_cases, In_none, In_has, has_In, In_append_cases, item_in, any_from, any_cases, all_from, all_at, in_push}
 use Rattle.clause_pool.specs.Interned.{Interned, row_at, clause_at, clauses_at, ids_at}
 use Rattle.row_book.specs.{Sets.{NumSet, Is, Within, Hit}, Repository.{Repository, clauses_of, against}, Book.{listed_for, repository_of, Sound}}
 use Rattle.row_book.specs.{declared.book.Book.{Book}, Flags.{flag}, Uses.{row_id, some_holds}}
@@ -12,13 +13,6 @@ use Rattle.listed.specs.Lists.{In, here, there, has}
 use Rattle.row_book.proofs.{Books.{clauses_row}, Flags.{flag_in}}
 use Rattle.clause_flatten.specs.Laws.{Lifts}
 use Rattle.install_lift.specs.Raising.{is_served, IsLowering, PutsUser}
-
-in_push : (xs : List ℕ) (x n : ℕ) → In n (xs ++ x ∷ []) → In n xs ⊎ (n ≡ x)
-in_push [] x n i = elim (In_cases i) [ inl e ↦ inr e | inr j ↦ absurd (In_none j) ]
-in_push (y ∷ xs) x n i = elim (In_cases i) [
-  | inl e ↦ inl (subst (λ z. In z (y ∷ xs)) (sym e) here)
-  | inr j ↦ elim (in_push xs x n j) [ inl a ↦ inl (there a) | inr b ↦ inr b ]
-]
 
 in_front : (xs ys : List ℕ) (n : ℕ) → In n xs → In n (xs ++ ys)
 in_front [] ys n i = absurd (In_none i)
@@ -241,10 +235,6 @@ not_served I J pool ids k id clause lt is lent f = sym (false_from_ne_true (is_s
     in_map : (f : ℕ → List ℕ) (xs : List ℕ) (x : ℕ) → In x xs → In (f x) (map f xs)
     in_map f [] x i = absurd (In_none i)
     in_map f (y ∷ xs) x i = elim (In_cases i) [ inl e ↦ subst (λ w. In (f w) (map f (y ∷ xs))) (sym e) here | inr j ↦ there (in_map f xs x j) ]
-
-pub none_left : (work : List ℕ) → length work ≡ 0 → work ≡ []
-none_left [] e = refl
-none_left (x ∷ xs) e = absurd (omega arith)
 
 -- the clauses of a package, and whether it is served
 pub clauses_are : (pool : Interned) (book : Book) (p row : ℕ) (ids : List ℕ) → p < length book.rows → row ≡ row_id book.rows p → ids ≡ ids_at pool row → clauses_of (repository_of pool book) p ≡ clauses_at pool ids

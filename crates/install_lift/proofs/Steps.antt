@@ -1,9 +1,9 @@
 -- Steps of trimming.
-use Rattle.std.proofs.Common.{◌≡◌, ℕ, zero, suc, ◌+◌, ◌<◌, ◌≤◌, Bool, true, false, not, ◌||◌, eqb, cond, List, [], ◌∷◌, ◌++◌, length, get_or, set, take, replicate, refl, ap, sym, ◌∙◌, arith, inl, inr, subst, Option, Some, None, map}
-use Rattle.std.proofs.{Math.Path.{fun_ext}, Math.Numerals.{add-one}}
-use Rattle.std.proofs.lemmas.Bool.{cases_Bool, cases_eq, both_ways, or_cases, or_left, or_right, not-true, not_from_false, not_from_true, eq-eqb, ne_eqb, eqb-true, false_from_ne_true}
-use Rattle.std.proofs.{lemmas.List.{get_or-set_same, get_or-set_other, get_or_default}, lemmas.List.Sums.{sum_by-set}}
-use Rattle.std.proofs.lemmas.List.Elements.{All-weaker, All-more, All-head, All-tail}
+use Rattle.std.proofs.Common.{◌≡◌, ℕ, zero, suc, ◌+◌, ◌<◌, ◌≤◌, Bool, true, false, not, ◌||◌, eqb, cond, List, [], ◌∷◌, ◌++◌, length, get_or, set, take}
+use Rattle.std.proofs.{Common.{replicate, refl, ap, sym, ◌∙◌, arith, inl, inr, subst, Option, Some, None, map}, Math.Path.{fun_ext}, Math.Numerals.{add-one}}
+use Rattle.std.proofs.lemmas.Bool.{cases_Bool, cases_eq, both_ways, or_cases, or_left, or_right, not-true, not_from_false, not_from_true, eq-eqb, ne_eqb}
+use Rattle.std.proofs.{lemmas.Bool.{eqb-true, false_from_ne_true}, lemmas.List.{get_or-set_same, get_or-set_other, get_or_default}}
+use Rattle.std.proofs.{lemmas.List.Sums.{sum_by-set}, lemmas.List.Elements.{All-weaker, All-more, All-head, All-tail}}
 use Rattle.std.specs.{Prelude.{All, count_by}, List.{list_any, find, flat_map}}
 use Rattle.clause_pool.specs.Interned.{Interned, clause_at, clauses_at, ids_at, row_at}
 use Rattle.row_book.specs.{Book.{repository_of}, declared.book.Book.{Book}, Uses.{row_id}, Sets.{NumSet, Is, Within, Hit, plus}, Numbers.{numbers}}

@@ -1,6 +1,6 @@
 -- Flags of sets, and the steps of lifting on them.
-use Rattle.std.proofs.Common.{◌≡◌, ℕ, zero, suc, ◌<◌, ◌≤◌, Bool, true, false, eqb, List, [], length, get_or, set, replicate, refl, sym, ◌∙◌, subst, arith, inl, inr}
-use Rattle.std.proofs.{Math.Path.{fun_ext}, Math.ListN.{get_or-eq_default}, lemmas.Bool.{cases_lt, cases_eq, eq-eqb, ne_eqb, false_from_ne_true}}
+use Rattle.std.proofs.Common.{◌≡◌, ℕ, zero, suc, ◌<◌, ◌≤◌, Bool, true, false, eqb, List, [], length, get_or, set, replicate, refl, sym, ◌∙◌, subst, arith, inl}
+use Rattle.std.proofs.{Common.{inr}, Math.Path.{fun_ext}, Math.ListN.{get_or-eq_default}, lemmas.Bool.{cases_lt, cases_eq, eq-eqb, ne_eqb, false_from_ne_true}}
 use Rattle.std.proofs.lemmas.List.{get_or-set_same, get_or-set_other, length-replicate}
 use Rattle.clause_pool.specs.Interned.{Interned, IsPool}
 use Rattle.row_book.specs.{Sets.{NumSet}, Repository.{Repository, Healthy}, Flags.{flag}, Rounds.{RoundStep}, Sound.{SoundRepository}}

@@ -1,6 +1,7 @@
 -- What waits once a package is put to it or taken from it, and what is met outside it.
-use Rattle.std.proofs.Common.{◌≡◌, ℕ, zero, suc, ◌+◌, ◌*◌, ◌<◌, ◌≤◌, Bool, true, false, ◌||◌, eqb, ◌⊎◌, List, length, get_or, set, replicate, take, inl, inr, refl, sym, ◌∙◌, ap, subst, arith, eq-eqb, None}
-use Rattle.std.proofs.{Math.Bool.{or-false}, lemmas.Bool.{cases_Bool, cases_eq, both_ways, or_parts}, lemmas.List.{get_or-set_other, get_or-set_same}}
+use Rattle.std.proofs.Common.{◌≡◌, ℕ, zero, suc, ◌+◌, ◌*◌, ◌<◌, ◌≤◌, Bool, true, false, ◌||◌, eqb, ◌⊎◌, List, length, get_or, set, replicate, take, inl, inr}
+use Rattle.std.proofs.{Common.{refl, sym, ◌∙◌, ap, subst, arith, eq-eqb, None}, Math.Bool.{or-false}, lemmas.Bool.{cases_Bool, cases_eq, both_ways, or_parts}}
+use Rattle.std.proofs.lemmas.List.{get_or-set_other, get_or-set_same}
 use Rattle.std.specs.List.{find}
 use Rattle.clause_pool.specs.Interned.{Interned, clauses_at, ids_at}
 use Rattle.row_book.specs.{Sets.{NumSet, Within, plus, without}, Book.{repository_of}, declared.book.Book.{Book}, Flags.{flag}, Uses.{row_id}}

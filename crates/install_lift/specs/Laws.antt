@@ -1,6 +1,8 @@
 -- The laws of lifting.
 use Rattle.std.specs.Prelude.{◌≡◌, ◌↔◌, ℕ, ◌<◌, Bool, List, length}
-use Rattle.row_book.specs.{Sets.{NumSet, Is}, Repository.{Repository, Healthy}, Sound.{SoundRepository}, Rounds.{RoundStep, kernel, kernel_class, kernel_steps}}
+use Rattle.row_book.specs.{Sets.{NumSet, Is}, Repository.{Repository, Healthy}}
+use Rattle.row_book.specs.Sound.{SoundRepository}
+use Rattle.row_book.specs.Rounds.{RoundStep, kernel, kernel_class, kernel_steps}
 use Rattle.install_lift.specs.Lifting.{IsLift, lift_of}
 
 -- K is the kernel of R at some limit and hold, and the trail is its own

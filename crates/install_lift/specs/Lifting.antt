@@ -1,7 +1,9 @@
 -- A healthy set of a kernel taken back through the steps by which the kernel was made, from the
 -- last step to the first.
-use Rattle.std.specs.{Prelude.{◌≡◌, ℕ, not, ◌&&◌, Bool, eqb, ltb, List, [], ◌∷◌, length, slice_index_or}, List.{list_all, list_any}}
-use Rattle.row_book.specs.{Sets.{NumSet, union}, Repository.{Repository, clauses_of, conflicts_of}, Numbers.{subsets}, Pruning.{lift_idle}}
+use Rattle.std.specs.Prelude.{◌≡◌, ℕ, not, ◌&&◌, Bool, eqb, ltb, List, [], ◌∷◌, length}
+use Rattle.std.specs.{Prelude.{slice_index_or}, List.{list_all, list_any}}
+use Rattle.row_book.specs.{Sets.{NumSet, union}, Repository.{Repository, clauses_of, conflicts_of}}
+use Rattle.row_book.specs.{Numbers.{subsets}, Pruning.{lift_idle}}
 use Rattle.row_book.specs.Rounds.{RoundStep, FlatStep, MergeStep, IdleStep}
 use Rattle.listed.specs.Lists.{has}
 use Rattle.clause_flatten.specs.Laws.{Lifts}

@@ -1,6 +1,9 @@
--- Steps on the way to the greatest set of packages without conflicts that a set serves.
-use Rattle.std.specs.{Prelude.{◌≡◌, ℕ, ◌<◌, Bool, true, false, List, length, ◌⊎◌, ◌||◌}, List.{list_any, list_all}}
-use Rattle.row_book.specs.{Sets.{NumSet, Is, Within}, Book.{listed_for}, Repository.{Repository, clauses_of, against}}
+-- The greatest set of packages without conflicts that a given set serves: what holds at each step
+-- until it is found.
+use Rattle.std.specs.Prelude.{◌≡◌, ℕ, ◌<◌, Bool, true, false, List, length, ◌⊎◌, ◌||◌}
+use Rattle.std.specs.List.{list_any, list_all}
+use Rattle.row_book.specs.{Sets.{NumSet, Is, Within}, Book.{listed_for}}
+use Rattle.row_book.specs.Repository.{Repository, clauses_of, against}
 use Rattle.listed.specs.Lists.{In}
 use Rattle.clause_flatten.specs.Laws.{Served}
 

@@ -1,9 +1,11 @@
 -- Trimming: as few of the chosen packages as the open needs ask for, one after another.
-use Rattle.std.specs.Prelude.{◌≡◌, ◌↔◌, ℕ, zero, suc, ◌<◌, Bool, true, false, not, cond, List, [], ◌++◌, length, take, slice_index_or, Option, Some, None}
+use Rattle.std.specs.Prelude.{◌≡◌, ◌↔◌, ℕ, zero, suc, ◌<◌, Bool, true, false, not, cond, List, []}
+use Rattle.std.specs.Prelude.{◌++◌, length, take, slice_index_or, Option, Some, None}
 use Rattle.std.specs.{List.{list_any, find, flat_map}, Option.{option_and_then}}
 use Rattle.clause_pool.specs.Interned.{Interned, clauses_at, ids_at}
-use Rattle.row_book.specs.{declared.book.Book.{Book}, Uses.{row_id}, Sets.{NumSet, Within, HitsAll, plus}, Repository.{Repository, Healthy, clauses_of}}
-use Rattle.row_book.specs.Flattening.{packages}
+use Rattle.row_book.specs.{declared.book.Book.{Book}, Uses.{row_id}}
+use Rattle.row_book.specs.Sets.{NumSet, Within, HitsAll, plus}
+use Rattle.row_book.specs.{Repository.{Repository, Healthy, clauses_of}, Flattening.{packages}}
 
 -- the clauses of a package that is in the set
 abbrev pub member_clauses : Repository → NumSet → ℕ → List (List ℕ)

@@ -1,6 +1,7 @@
 -- for the bodies of this crate alone
 -- The packages that wait to be looked at.
-use Rattle.std.specs.{Prelude.{◌≡◌, ℕ, ◌≤◌, true}, Ordering.{nat_cmp}, BTreeSet.{contains, btree_set_len}}
+use Rattle.std.specs.{Prelude.{◌≡◌, ℕ, ◌≤◌, true}, Ordering.{nat_cmp}}
+use Rattle.std.specs.BTreeSet.{contains, btree_set_len}
 use Rattle.row_book.specs.Sets.{NumSet}
 use Rattle.install_lift.specs.declared.waiting.Waiting.{Waiting}
 

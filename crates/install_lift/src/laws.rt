@@ -1,5 +1,6 @@
 //! The laws of lifting and of trimming. The functions do nothing: the contract of each is one law.
-ghost use Rattle.install_lift.specs.{Laws.{LiftIsHealthy, LiftIsOne, LiftIsOf}, Trimming.{TrimIsHealthy, TrimIsOne, TrimIsOf}};
+ghost use Rattle.install_lift.specs.Laws.{LiftIsHealthy, LiftIsOne, LiftIsOf};
+ghost use Rattle.install_lift.specs.Trimming.{TrimIsHealthy, TrimIsOne, TrimIsOf};
 
 /// A lifted set is healthy, and has each package of each class that it came from.
 pub fn lift_is_healthy()

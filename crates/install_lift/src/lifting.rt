@@ -1,8 +1,11 @@
 //! A healthy set of a kernel taken back to the repository that the kernel came from.
-ghost use Rattle.std.specs.Prelude.{◌≡◌, ◌<◌, ◌+◌, ℕ, ◌||◌, ◌==◌, false, IfOk, length, map, replicate};
-ghost use Rattle.row_book.specs.{Sets.{plus, union}, Repository.{Healthy}, Book.{repository_of, Sound}, Flags.{flag}, Pruning.{lift_idle}};
+ghost use Rattle.std.specs.Prelude.{◌≡◌, ◌<◌, ◌+◌, ℕ, ◌||◌, ◌==◌, false, IfOk, length, map};
+ghost use Rattle.std.specs.Prelude.{replicate};
+ghost use Rattle.row_book.specs.{Sets.{plus, union}, Repository.{Healthy}};
+ghost use Rattle.row_book.specs.{Book.{repository_of, Sound}, Flags.{flag}, Pruning.{lift_idle}};
 ghost use Rattle.row_book.specs.Trail.{step_meaning, trail_meaning, SoundStep, SoundSteps};
-ghost use Rattle.install_lift.specs.{Lifting.{lift_of, members_by, IsLift, IsLiftThrough}, Laws.{HoldsMembers, IsKernelBy}};
+ghost use Rattle.install_lift.specs.Lifting.{lift_of, members_by, IsLift, IsLiftThrough};
+ghost use Rattle.install_lift.specs.Laws.{HoldsMembers, IsKernelBy};
 
 use crate::raising::{greatest_support, is_up};
 use crate::trimming::hits_one;

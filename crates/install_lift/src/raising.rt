@@ -2,9 +2,11 @@
 //!
 //! It is a greatest fixed point, found from above by a worklist: what is not served is removed.
 //! Each package is looked at once, and again only if something that it names was removed.
-ghost use Rattle.std.specs.{Prelude.{◌≡◌, ◌∷◌, ◌++◌, ◌<◌, ◌||◌, eqb, true, false, [], IfOk, OnOk, length, replicate, slice_set}, List.{list_any}};
+ghost use Rattle.std.specs.Prelude.{◌≡◌, ◌∷◌, ◌++◌, ◌<◌, ◌||◌, eqb, true, false, [], IfOk, OnOk};
+ghost use Rattle.std.specs.{Prelude.{length, replicate, slice_set}, List.{list_any}};
 ghost use Rattle.clause_pool.specs.Interned.{clauses_at, OfPool};
-ghost use Rattle.row_book.specs.{Repository.{clauses_of}, Book.{listed_for, repository_of, Sound}, Flags.{flag}};
+ghost use Rattle.row_book.specs.{Repository.{clauses_of}, Book.{listed_for, repository_of, Sound}};
+ghost use Rattle.row_book.specs.Flags.{flag};
 ghost use Rattle.clause_flatten.specs.Laws.{Lifts};
 ghost use Rattle.install_lift.specs.Raising.{is_served, IsLowering, PutsUser};
 

@@ -1,9 +1,12 @@
 //! Trimming: as few of the chosen packages as the open needs ask for.
-ghost use Rattle.std.specs.Prelude.{◌≡◌, ◌<◌, ℕ, Bool, true, false, List, [], Some, None, IfOk, OnOk, IfSome, IfNone, All, replicate, length, slice_set, take};
+ghost use Rattle.std.specs.Prelude.{◌≡◌, ◌<◌, ℕ, Bool, true, false, List, [], Some, None, IfOk};
+ghost use Rattle.std.specs.Prelude.{OnOk, IfSome, IfNone, All, replicate, length, slice_set, take};
 ghost use Rattle.std.specs.List.{list_any, find};
 ghost use Rattle.clause_pool.specs.Interned.{clause_at, clauses_at, OfPool};
-ghost use Rattle.row_book.specs.{Sets.{HitsAll}, Repository.{Healthy}, Book.{repository_of, Sound}, Flags.{flag}, Needs.{NeedsFit}};
-ghost use Rattle.install_lift.specs.{Waiting.{is_waiting}, Trimming.{is_unhit, IsHealthyPart, IsTrim, IsTrimming, trim_of}};
+ghost use Rattle.row_book.specs.{Sets.{HitsAll}, Repository.{Healthy}, Book.{repository_of, Sound}};
+ghost use Rattle.row_book.specs.{Flags.{flag}, Needs.{NeedsFit}};
+ghost use Rattle.install_lift.specs.Waiting.{is_waiting};
+ghost use Rattle.install_lift.specs.Trimming.{is_unhit, IsHealthyPart, IsTrim, IsTrimming, trim_of};
 
 use crate::raising::is_up;
 use crate::waiting::Waiting;

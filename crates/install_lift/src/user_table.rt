@@ -3,7 +3,8 @@
 //!
 //! The table is made once and then only read, so one vector with chains is enough. A package
 //! without a user takes no memory of its own.
-ghost use Rattle.std.specs.Prelude.{◌≡◌, ◌<◌, ◌≤◌, ◌∷◌, ◌++◌, [], IfOk, OnOk, length, replicate, slice_set};
+ghost use Rattle.std.specs.Prelude.{◌≡◌, ◌<◌, ◌≤◌, ◌∷◌, ◌++◌, [], IfOk, OnOk, length, replicate};
+ghost use Rattle.std.specs.Prelude.{slice_set};
 ghost use Rattle.row_book.specs.Book.{listed_for};
 ghost use Rattle.install_lift.specs.Chains.{chain, Falls};
 

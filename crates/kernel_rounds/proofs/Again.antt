@@ -1,27 +1,22 @@
 -- A kernel is its own kernel, and passes no limit that was not passed on the way to it.
 use Rattle.std.proofs.Common.{◌≡◌, ℕ, Bool, suc, ◌≤◌, List, [], ◌∷◌, inl, inr, refl, sym, ◌∙◌, ap, subst, arith, map, zero-le, Option, Some, None, ◌↔◌}
-use Rattle.std.specs.Option.{option_map}
 use Rattle.listed.specs.Lists.{In}
 use Rattle.row_book.specs.{Repository.{Repository, Coinst}, Keeping.{KeepsImages}, Sound.{SoundRepository}, Flattening.{first_some, held_of, passes}}
-use Rattle.row_book.specs.Rounds.{in_round, kernel, kernel_held, kernel_image, Settled, class_after, limit_at, passed_in_round, round, rounds, round_count, steps_after}
-use Rattle.row_book.specs.Numbers.{numbers}
-use Rattle.listed.proofs.Lists.{In_cases, In_none}
+use Rattle.row_book.specs.Rounds.{in_round, kernel, kernel_held, kernel_image, Settled, class_after, limit_at, passed_in_round, round, rounds, round_count}
+use Rattle.row_book.specs.{Rounds.{steps_after}, Numbers.{numbers}}
+use Rattle.listed.proofs.{Lists.{In_cases, In_none}, Bools.{map_none}}
 use Rattle.row_book.proofs.Numbers.{numbers_from}
 use Rattle.kernel_rounds.specs.{Laws.{KernelOfKernel, OwnKernel}, Extracting.{IsOwnKernel}}
 use Rattle.kernel_rounds.proofs.{Midways.{none_passed}, Reached.{kernel_is_lem, kernel_keeps_lem}}
 
 -- where no value is found, each is absent
-each_none : {A : Type 0} (f : ℕ → Option A) (xs : List ℕ) → first_some (map f xs) ≡ None → (x : ℕ) → In x xs → f x ≡ None
+pub each_none : {A : Type 0} (f : ℕ → Option A) (xs : List ℕ) → first_some (map f xs) ≡ None → (x : ℕ) → In x xs → f x ≡ None
 each_none f [] h x i = absurd (In_none i)
 each_none {A} f (y ∷ ys) h x i = pick (f y) refl h (λ g j. each_none f ys g x j)
   where
     pick : (o : Option A) → f y ≡ o → first_some (o ∷ map f ys) ≡ None → (first_some (map f ys) ≡ None → In x ys → f x ≡ None) → f x ≡ None
     pick None e g more = elim (In_cases i) [ inl s ↦ ap f s ∙ e | inr j ↦ more g j ]
     pick (Some w) e g more = absurd (let never : ⊥ = cc in never)
-
-map_none : {A B : Type 0} (f : A → B) (o : Option A) → option_map f o ≡ None → o ≡ None
-map_none f None h = refl
-map_none f (Some x) h = absurd (let never : ⊥ = cc in never)
 
 -- where no round passes the limit, none up to the last one does
 pub all_within : (limit : ℕ) (hold : Bool) (R : Repository) → limit_at limit hold R ≡ None →

@@ -1,7 +1,7 @@
 -- The classes of a kernel: each package is of one, each has a package, and there are no more of them than packages. And the
 -- package that is named where a round passes the clause limit.
-use Rattle.std.proofs.Common.{◌≡◌, ℕ, zero, suc, ◌+◌, ◌<◌, ◌≤◌, Bool, true, false, cond, eqb, List, [], ◌∷◌, length, map, Option, Some, None, refl, sym, ◌∙◌, ap, subst, arith, inl, inr, eq-eqb}
-use Rattle.std.proofs.lemmas.List.{length-map}
+use Rattle.std.proofs.Common.{◌≡◌, ℕ, zero, suc, ◌+◌, ◌<◌, ◌≤◌, Bool, true, false, cond, eqb, List, [], ◌∷◌, length, map, Option, Some, None, refl, sym, ◌∙◌}
+use Rattle.std.proofs.{Common.{ap, subst, arith, inl, inr, eq-eqb}, lemmas.List.{length-map}}
 use Rattle.std.specs.{Prelude.{ltb}, List.{find}, Option.{option_map}}
 use Rattle.row_book.specs.{Numbers.{numbers}, Flattening.{Passed, first_some, flat, packages, passed_at, passes, remaining_after, row_length}}
 use Rattle.row_book.specs.{Merging.{class_of, first_of, firsts, place_of}, Pruning.{prune}, Repository.{Repository}}

@@ -1,7 +1,7 @@
 -- The rounds end, whatever comes after merging: packages, then conflicts, then packages without conflicts in clauses, then the
 -- weight of the clauses go down.
-use Rattle.std.proofs.Common.{◌≡◌, ℕ, Bool, zero, suc, ◌<◌, ◌≤◌, ◌+◌, ◌*◌, true, false, List, [], ◌∷◌, length, ◌⊎◌, inl, inr, refl, sym, ◌∙◌, ap, ap₂, subst, arith, slice_index_or, zero-le}
-use Rattle.std.proofs.{Math.Nat.{mul-le-mul_right, mul-le-mul_left}, lemmas.Bool.{cases_Bool, cases_lt}}
+use Rattle.std.proofs.Common.{◌≡◌, ℕ, Bool, zero, suc, ◌<◌, ◌≤◌, ◌+◌, ◌*◌, true, false, List, [], ◌∷◌, length, ◌⊎◌, inl, inr, refl, sym, ◌∙◌, ap, ap₂, subst}
+use Rattle.std.proofs.{Common.{arith, slice_index_or, zero-le}, Math.Nat.{mul-le-mul_right, mul-le-mul_left}, lemmas.Bool.{cases_Bool, cases_lt}}
 use Rattle.listed.specs.Lists.{In, here, there, Ascending}
 use Rattle.clause_pool.specs.Lists.{Before, InOrder}
 use Rattle.row_book.specs.{Numbers.{subsets}, Repository.{Repository, clauses_of}, Sound.{SoundRepository, TidyRepository}}

@@ -3,8 +3,8 @@ use Rattle.std.proofs.Common.{◌≡◌, ℕ, zero, suc, Bool, false, cond, List
 use Rattle.row_book.specs.Repository.{Repository}
 use Rattle.row_book.specs.Flattening.{Remaining, flat, gone_or_held, held_of, is_held, next_gone, packages, remaining_after, rows_over}
 use Rattle.row_book.specs.{Merging.{class_list, class_of, quotient}, Pruning.{idle_steps, prune}}
-use Rattle.row_book.specs.Rounds.{FlatStep, IdleStep, MergeStep, class_after, enough_rounds, is_same_repository, kernel, round, round_count, rounds, rounds_until, steps_after}
-use Rattle.row_book.specs.Thinning.{thin}
+use Rattle.row_book.specs.Rounds.{FlatStep, IdleStep, MergeStep, class_after, enough_rounds, is_same_repository, kernel, round, round_count, rounds}
+use Rattle.row_book.specs.{Rounds.{rounds_until, steps_after}, Thinning.{thin}}
 use Rattle.kernel_rounds.specs.Laws.{LimitWithoutHold}
 
 none_is_held : (limit : ℕ) (R : Repository) (i n : ℕ) → (remaining_after limit false R i).held n ≡ false

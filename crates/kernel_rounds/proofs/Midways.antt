@@ -1,5 +1,6 @@
 -- One more round on the way to a kernel.
-use Rattle.std.proofs.Common.{◌≡◌, ℕ, zero, suc, ◌<◌, ◌≤◌, ◌+◌, Bool, true, false, not, ◌↔◌, cond, min, eqb, List, [], ◌∷◌, ◌++◌, length, inl, inr, refl, sym, ◌∙◌, ap, ap₂, subst, arith, map, zero-le, append_assoc, append-nil, Option, Some, None}
+use Rattle.std.proofs.Common.{◌≡◌, ℕ, zero, suc, ◌<◌, ◌≤◌, ◌+◌, Bool, true, false, not, ◌↔◌, cond, min, eqb, List, [], ◌∷◌, ◌++◌, length, inl, inr, refl, sym}
+use Rattle.std.proofs.Common.{◌∙◌, ap, ap₂, subst, arith, map, zero-le, append_assoc, append-nil, Option, Some, None}
 use Rattle.std.proofs.{lemmas.Bool.{cases_eq, cases_lt, both_ways}, lemmas.List.{map-append}}
 use Rattle.std.specs.{Prelude.{if◌then◌else◌}, Option.{option_map}}
 use Rattle.clause_pool.specs.Interned.{Interned, IsPool, Kept}
@@ -11,8 +12,8 @@ use Rattle.row_book.specs.{declared.book.Book.{Book}, declared.trail.Step.{Step}
 use Rattle.row_book.specs.{Repository.{Repository}, Book.{repository_of, IsSameBook, Sound}, Sound.{SoundRepository}}
 use Rattle.row_book.specs.{Flattening.{flat, first_some, held_of, packages, Passed, passes}, Merging.{class_list, class_of, quotient, place_of}}
 use Rattle.row_book.specs.Pruning.{IdleClause, idle_steps}
-use Rattle.row_book.specs.Rounds.{is_same_repository, RoundStep, FlatStep, IdleStep, MergeStep, round, rounds, round_steps, round_count, class_after, steps_after, in_round, limit_at, passed_in_round}
-use Rattle.row_book.specs.Trail.{SoundStep, SoundSteps, trail_meaning, step_meaning}
+use Rattle.row_book.specs.Rounds.{is_same_repository, RoundStep, FlatStep, IdleStep, MergeStep, round, rounds, round_steps, round_count, class_after}
+use Rattle.row_book.specs.{Rounds.{steps_after, in_round, limit_at, passed_in_round}, Trail.{SoundStep, SoundSteps, trail_meaning, step_meaning}}
 use Rattle.listed.specs.Lists.{In, here, there}
 use Rattle.row_book.proofs.{BookRepositories.{book_size}, Books.{repository_kept, sound_kept}, Numbers.{length_numbers, map_same, numbers_parts}}
 use Rattle.row_book.proofs.Repositories.{of_packages}

@@ -1,6 +1,6 @@
 -- Steps whose books come into another pool, and what is left of a pool.
-use Rattle.std.proofs.Common.{◌≡◌, ℕ, Bool, ◌<◌, ◌+◌, List, [], ◌∷◌, ◌++◌, inl, inr, refl, sym, ◌∙◌, ap, ap₂, subst, length, get_or, take, map, append_assoc, append-nil, Option}
-use Rattle.std.proofs.{lemmas.Bool.{cases_lt}, lemmas.List.{map-append, take_more}}
+use Rattle.std.proofs.Common.{◌≡◌, ℕ, Bool, ◌<◌, ◌+◌, List, [], ◌∷◌, ◌++◌, inl, inr, refl, sym, ◌∙◌, ap, ap₂, subst, length, get_or, take, map, append_assoc}
+use Rattle.std.proofs.{Common.{append-nil, Option}, lemmas.Bool.{cases_lt}, lemmas.List.{map-append, take_more}}
 use Rattle.clause_pool.specs.{Interned.{Interned, IsPool, Kept, clause_at, ids_at, row_at}, Compacting.{Compacts, Renames, RowsOf}}
 use Rattle.clause_pool.proofs.Interned.{kept_along}
 use Rattle.row_book.proofs.{Compared.{row_once}, Repositories.{repository_same}}

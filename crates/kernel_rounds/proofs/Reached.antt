@@ -1,11 +1,11 @@
 -- The kernel: what a round leaves is settled, and is reached.
-use Rattle.std.proofs.Common.{◌≡◌, ◌≢◌, ℕ, zero, suc, ◌<◌, ◌≤◌, ◌+◌, Bool, true, false, not, ◌||◌, eqb, cond, List, [], ◌∷◌, length, filter, inl, inr, refl, sym, ◌∙◌, ap, subst, arith, zero-le, ◌↔◌}
-use Rattle.std.proofs.lemmas.Bool.{and_from, and_parts, both_ways, cases_eq}
+use Rattle.std.proofs.Common.{◌≡◌, ◌≢◌, ℕ, zero, suc, ◌<◌, ◌≤◌, ◌+◌, Bool, true, false, not, ◌||◌, eqb, cond, List, [], ◌∷◌, length, filter, inl, inr, refl}
+use Rattle.std.proofs.{Common.{sym, ◌∙◌, ap, subst, arith, zero-le, ◌↔◌}, lemmas.Bool.{and_from, and_parts, both_ways, cases_eq}}
 use Rattle.std.specs.{Cmp.Lexicographic.{pointwise}, List.{list_all, list_any}}
 use Rattle.row_book.specs.{Sets.{NumSet, Is}, Numbers.{numbers}, Repository.{Repository, Coinst, clauses_of}}
 use Rattle.row_book.specs.{Sound.{OfPackages, SoundRepository, TidyRepository}, Flattening.{flat}, Merging.{firsts, class_of, image, quotient}}
-use Rattle.row_book.specs.Pruning.{made_dead, others, without_clause, is_dead, is_dropped, prune_clause, prune_clauses, prune_package, prune_over, prune, serves}
-use Rattle.row_book.specs.Thinning.{thin}
+use Rattle.row_book.specs.Pruning.{made_dead, others, without_clause, is_dead, is_dropped, prune_clause, prune_clauses, prune_package, prune_over, prune}
+use Rattle.row_book.specs.{Pruning.{serves}, Thinning.{thin}}
 use Rattle.row_book.specs.Rounds.{round, rounds, class_after, image_after, is_same_repository, enough_rounds, rounds_until, round_count, kernel, kernel_image}
 use Rattle.listed.specs.Lists.{In, here, there}
 use Rattle.row_book.proofs.{Books.{in_listed}, Numbers.{numbers_parts}}

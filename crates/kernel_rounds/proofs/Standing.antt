@@ -1,7 +1,8 @@
 -- Packages that stand in clauses: flattening brings no package into them, and where a round leaves as many without conflicts
 -- there, it leaves the same.
-use Rattle.std.proofs.Common.{◌≡◌, ℕ, ◌<◌, ◌≤◌, Bool, true, false, not, ◌&&◌, ◌||◌, List, [], length, filter, ◌⊎◌, inl, inr, refl, sym, ◌∙◌, ap, ap₂, subst, arith, slice_index_or, zero-le}
-use Rattle.std.proofs.{lemmas.Bool.{and_from, and_parts, both_ways, cases_Bool, not-true, not_from_false}, lemmas.List.{length-map}}
+use Rattle.std.proofs.Common.{◌≡◌, ℕ, ◌<◌, ◌≤◌, Bool, true, false, not, ◌&&◌, ◌||◌, List, [], length, filter, ◌⊎◌, inl, inr, refl, sym, ◌∙◌, ap, ap₂, subst}
+use Rattle.std.proofs.{Common.{arith, slice_index_or, zero-le}, lemmas.Bool.{and_from, and_parts, both_ways, cases_Bool, not-true, not_from_false}}
+use Rattle.std.proofs.lemmas.List.{length-map}
 use Rattle.std.specs.List.{list_any}
 use Rattle.listed.specs.Lists.{In, has}
 use Rattle.row_book.specs.{Sets.{NumSet}, Numbers.{numbers}, Repository.{Repository, clauses_of}, Support.{MinimalBlock}, Flattening.{has_conflict, packages}}

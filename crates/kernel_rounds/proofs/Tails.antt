@@ -1,5 +1,5 @@
--- Rounds keep every set, whatever comes after merging; the three choices of what comes.
-use Rattle.std.proofs.Common.{◌≡◌, ℕ, Bool, zero, suc, ◌<◌, [], length, inl, inr, refl, sym, ◌∙◌, ap, subst, slice_index_or, ◌↔◌}
+-- Rounds keep every set, whatever comes after merging; and what comes in the rounds of a kernel.
+use Rattle.std.proofs.Common.{◌≡◌, ℕ, Bool, zero, suc, ◌<◌, [], length, inl, inr, sym, ◌∙◌, ap, subst, slice_index_or, ◌↔◌}
 use Rattle.row_book.specs.{Sets.{NumSet, Is}, Repository.{Repository, Coinst, clauses_of}, Sound.{OfPackages, SoundRepository, TidyRepository}}
 use Rattle.row_book.specs.{Flattening.{flat}, Merging.{firsts, class_of, image, quotient}, Pruning.{prune}, Thinning.{thin}}
 use Rattle.listed.specs.Lists.{In}
@@ -9,7 +9,7 @@ use Rattle.clause_flatten.proofs.{Flat.{flat_keeps_lem}, TidyFlat.{flat_size, fl
 use Rattle.class_merge.proofs.{Classes.{has_class_lem, image_parts}, Kept.{merge_is_tidy_lem, merge_keeps_lem, merged_size}}
 use Rattle.clause_prune.proofs.Dropping.{prune_step}
 use Rattle.conflict_reduce.proofs.Thinned.{thin_is_sound_lem, thin_keeps_lem}
-use Rattle.kernel_rounds.specs.{Tails.{Lighter, Tail, conflict_count, round_with}, Laws.{RoundsKept, TailsKeep, ThreeTails}}
+use Rattle.kernel_rounds.specs.{Tails.{Lighter, Tail, conflict_count, round_with}, Laws.{RoundsKept, TailsKeep}}
 use Rattle.kernel_rounds.proofs.Thins.{count_same, thin_or}
 
 pub merged_tidy : (limit : ℕ) (hold : Bool) → (K : Repository) → SoundRepository K → TidyRepository (quotient (flat limit hold K))
@@ -42,29 +42,6 @@ tails_keep_lem limit hold t tail R s (suc n) =
       sound = rest.sound;
     }
 
--- the three rounds
-plain_tail : Tail (λ R. R)
-plain_tail = record {
-  sound = λ R f. f.sound;
-  keeps = λ R f S. ((λ h. h), (λ h. h));
-  size = λ R f. refl;
-  conflicts = λ R f. inl refl;
-  clauses = λ R f p c i. inl i;
-  order = λ R f o. o;
-  weight = λ R f p. inl refl;
-}
-
-prune_tail : Tail prune
-prune_tail = record {
-  sound = λ R f. (prune_step R f).tidy.sound;
-  keeps = λ R f. (prune_step R f).keeps;
-  size = λ R f. (prune_step R f).size;
-  conflicts = λ R f. inl (prune_step R f).conflicts;
-  clauses = λ R f. (prune_step R f).rows;
-  order = λ R f. (prune_step R f).order;
-  weight = λ R f. (prune_step R f).weight;
-}
-
 thin_row : (R : Repository) → SoundRepository R → (p : ℕ) → clauses_of (thin R) p ≡ clauses_of R p
 thin_row R s p = ap (λ c. slice_index_or c p []) (thin_is_sound_lem R s).clauses
 
@@ -81,6 +58,3 @@ thin_tail = record {
   order = λ R f o p. subst (λ r. InOrder r) (sym (thin_row (prune R) (prune_step R f).tidy.sound p)) ((prune_step R f).order o p);
   weight = λ R f p. subst (λ r. Lighter r (clauses_of R p)) (sym (thin_row (prune R) (prune_step R f).tidy.sound p)) ((prune_step R f).weight p);
 }
-
-pub three_tails_lem : ThreeTails
-three_tails_lem = record { merging = plain_tail; pruning = prune_tail; thinning = thin_tail }

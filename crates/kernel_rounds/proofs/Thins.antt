@@ -1,5 +1,6 @@
 -- Thinning drops a conflict or nothing; filters that keep fewer.
-use Rattle.std.proofs.Common.{◌≡◌, ℕ, zero, suc, ◌<◌, ◌≤◌, ◌+◌, ◌*◌, Bool, true, false, not, ◌&&◌, eqb, cond, List, [], ◌∷◌, ◌++◌, length, ◌⊎◌, inl, inr, refl, sym, ◌∙◌, ap, ap₂, subst, arith, map, filter, slice_index_or, eq-eqb, zero-le, length-append}
+use Rattle.std.proofs.Common.{◌≡◌, ℕ, zero, suc, ◌<◌, ◌≤◌, ◌+◌, ◌*◌, Bool, true, false, not, ◌&&◌, eqb, cond, List, [], ◌∷◌, ◌++◌, length, ◌⊎◌, inl, inr, refl}
+use Rattle.std.proofs.Common.{sym, ◌∙◌, ap, ap₂, subst, arith, map, filter, slice_index_or, eq-eqb, zero-le, length-append}
 use Rattle.std.proofs.lemmas.Bool.{and_from, and_right, both_ways, cases_Bool, cases_eq, false≢true, not_from_true, or_left}
 use Rattle.listed.proofs.Lists.{filter_short, filter_le, In_append_left, In_append_right, In_cases, In_map, In_none, filter_cases, filter_from}
 use Rattle.listed.specs.Lists.{In, here, there, has}

@@ -1,6 +1,6 @@
 -- If no row passes the limit without hold, hold changes nothing: each elimination is the same step by step.
-use Rattle.std.proofs.Common.{◌≡◌, ℕ, zero, suc, ◌<◌, ◌≤◌, true, false, cond, ltb, List, [], ◌∷◌, length, map, Option, Some, None, refl, sym, ◌∙◌, ap, ap₂, subst, arith}
-use Rattle.std.proofs.lemmas.Bool.{false_from_ne_true, lt-ltb, ltb-true}
+use Rattle.std.proofs.Common.{◌≡◌, ℕ, zero, suc, ◌<◌, ◌≤◌, true, false, cond, ltb, List, [], ◌∷◌, length, map, Option, Some, None, refl, sym, ◌∙◌, ap, ap₂}
+use Rattle.std.proofs.{Common.{subst, arith}, lemmas.Bool.{false_from_ne_true, lt-ltb, ltb-true}}
 use Rattle.clause_flatten.specs.Locality.{StandsIn}
 use Rattle.clause_flatten.proofs.{LocalRuns.{limit_is_local_lem}, Passing.{passes_none}}
 use Rattle.listed.specs.Lists.{In}

@@ -4,12 +4,18 @@ use Rattle.std.specs.Prelude.{◌≡◌, ◌≢◌, ℕ, suc, ◌<◌, Bool, min
 use Rattle.clause_pool.specs.Interned.{Interned, Kept}
 use Rattle.clause_flatten.specs.declared.error.FlatError.{FlatError}
 use Rattle.clause_flatten.specs.declared.error.FlatError.TheVariants as faults
-use Rattle.row_book.specs.{declared.book.Book.{Book}, declared.trail.Step.{Step}, Book.{repository_of, IsSameBook, Sound}, Repository.{Repository}}
-use Rattle.row_book.specs.{Flattening.{flat, held_of, packages, passes}, Merging.{class_list, place_of, quotient}, Pruning.{idle_steps}}
-use Rattle.row_book.specs.Rounds.{round, rounds, IdleStep, class_after, steps_after, kernel, kernel_class, kernel_held, kernel_steps, limit_at, PassedRound}
+use Rattle.row_book.specs.{declared.book.Book.{Book}, declared.trail.Step.{Step}}
+use Rattle.row_book.specs.{Book.{repository_of, IsSameBook, Sound}, Repository.{Repository}}
+use Rattle.row_book.specs.Flattening.{flat, held_of, packages, passes}
+use Rattle.row_book.specs.{Merging.{class_list, place_of, quotient}, Pruning.{idle_steps}}
+use Rattle.row_book.specs.Rounds.{round, rounds, IdleStep, class_after, steps_after, kernel}
+use Rattle.row_book.specs.Rounds.{kernel_class, kernel_held, kernel_steps, limit_at, PassedRound}
 use Rattle.row_book.specs.Trail.{SoundSteps, trail_meaning}
-use Rattle.kernel_rounds.specs.{declared.advancing.Progress.{Progress}, declared.rounding.Reduced.{Reduced}, declared.error.RoundError.{RoundError}}
-use Rattle.kernel_rounds.specs.{declared.error.RoundError.TheVariants.{Limit, Memory}, Moving.{HasSteps}}
+use Rattle.kernel_rounds.specs.declared.advancing.Progress.{Progress}
+use Rattle.kernel_rounds.specs.declared.rounding.Reduced.{Reduced}
+use Rattle.kernel_rounds.specs.declared.error.RoundError.{RoundError}
+use Rattle.kernel_rounds.specs.declared.error.RoundError.TheVariants.{Limit, Memory}
+use Rattle.kernel_rounds.specs.Moving.{HasSteps}
 
 -- what a round makes of a book of the repository, if no row passes the limit
 pub record IsReduced (limit : ℕ) (hold : Bool) (R : Repository) (pool : Interned)

@@ -1,8 +1,11 @@
 -- What is known of the rounds after the first, and what follows from it.
 use Rattle.std.specs.Prelude.{◌≡◌, ℕ, Bool, true, false, List, length, map, None}
-use Rattle.class_merge.specs.{Classes.{class_in}, Masks.{masked_repository}, declared.masked.MaskedRows.{MaskedRows}}
-use Rattle.row_book.specs.{Book.{repository_of, Sound}, Flags.{flag}, Flattening.{flat, packages, passes}, Parts.{part, place_in}, Repository.{Repository}}
-use Rattle.row_book.specs.{Rounds.{kernel, kernel_class, limit_at}, Sound.{SoundRepository}}
+use Rattle.class_merge.specs.{Classes.{class_in}, Masks.{masked_repository}}
+use Rattle.class_merge.specs.declared.masked.MaskedRows.{MaskedRows}
+use Rattle.row_book.specs.{Book.{repository_of, Sound}, Flags.{flag}}
+use Rattle.row_book.specs.{Flattening.{flat, packages, passes}, Parts.{part, place_in}}
+use Rattle.row_book.specs.{Repository.{Repository}, Rounds.{kernel, kernel_class, limit_at}}
+use Rattle.row_book.specs.Sound.{SoundRepository}
 use Rattle.kernel_rounds.specs.declared.known.{Classified.{Classified}, KnownRounds.{KnownRounds}}
 
 -- the repository that a first round has left

@@ -1,9 +1,13 @@
 -- The laws of the rounds and of the kernel.
-use Rattle.std.specs.{Prelude.{◌≡◌, ℕ, ◌<◌, ◌≤◌, ◌+◌, ◌∷◌, ◌↔◌, Bool, true, false, not, ◌&&◌, List, [], length, filter, None}, List.{list_any}}
-use Rattle.row_book.specs.{Sets.{NumSet, Is}, Repository.{Repository, Coinst, clauses_of}, Sound.{OfPackages, SoundRepository}}
-use Rattle.row_book.specs.{Flattening.{core_of, flat, has_conflict, packages, passes}, Support.{row}, Merging.{class_of, quotient}, Pruning.{prune}}
+use Rattle.std.specs.Prelude.{◌≡◌, ℕ, ◌<◌, ◌≤◌, ◌+◌, ◌∷◌, ◌↔◌, Bool, true, false, not, ◌&&◌, List}
+use Rattle.std.specs.{Prelude.{[], length, filter, None}, List.{list_any}}
+use Rattle.row_book.specs.{Sets.{NumSet, Is}, Repository.{Repository, Coinst, clauses_of}}
+use Rattle.row_book.specs.Sound.{OfPackages, SoundRepository}
+use Rattle.row_book.specs.Flattening.{core_of, flat, has_conflict, packages, passes}
+use Rattle.row_book.specs.{Support.{row}, Merging.{class_of, quotient}, Pruning.{prune}}
 use Rattle.row_book.specs.Thinning.{thin}
-use Rattle.row_book.specs.Rounds.{round, rounds, enough_rounds, round_count, kernel, kernel_class, kernel_held, kernel_image, kernel_steps, limit_at, weigh, Settled}
+use Rattle.row_book.specs.Rounds.{round, rounds, enough_rounds, round_count, kernel, kernel_class}
+use Rattle.row_book.specs.Rounds.{kernel_held, kernel_image, kernel_steps, limit_at, weigh, Settled}
 use Rattle.listed.specs.Lists.{In, has}
 use Rattle.clause_pool.specs.Lists.{Before, InOrder}
 use Rattle.class_merge.specs.Laws.{plain_clauses}
@@ -34,12 +38,6 @@ TailsEnd = (limit : ℕ) (hold : Bool) → (t : Repository → Repository) → T
     (R : Repository) → SoundRepository R →
     round_with limit hold t (rounds_with limit hold t R (enough_rounds (length R.clauses)))
     ≡ rounds_with limit hold t R (enough_rounds (length R.clauses))
-
--- the three rounds: merging alone, with pruning, and with pruning and thinning
-pub record ThreeTails : Type 0 where
-  pub merging : Tail (λ R. R)
-  pub pruning : Tail prune
-  pub thinning : Tail (λ R. thin (prune R))
 
 -- a repository that a round leaves is left by each of its parts
 pub record LeftByEach (limit : ℕ) (hold : Bool) (K : Repository) : Type 0 where

@@ -1,8 +1,10 @@
 -- Steps whose books come into another pool, and pools that have only some rows.
 use Rattle.std.specs.Prelude.{◌≡◌, ℕ, ◌<◌, List, [], ◌∷◌, ◌++◌, length}
 use Rattle.clause_pool.specs.Interned.{Interned, Kept, ids_at}
-use Rattle.row_book.specs.{declared.book.Book.{Book}, declared.trail.Step.{Step}, declared.trail.Step.TheVariants.{Flat, Idle, Merge}, Book.{AddsOnly}}
-use Rattle.row_book.specs.{Rounds.{RoundStep}, Trail.{SoundStep, SoundSteps, step_meaning, trail_meaning}}
+use Rattle.row_book.specs.{declared.book.Book.{Book}, declared.trail.Step.{Step}}
+use Rattle.row_book.specs.{declared.trail.Step.TheVariants.{Flat, Idle, Merge}, Book.{AddsOnly}}
+use Rattle.row_book.specs.Rounds.{RoundStep}
+use Rattle.row_book.specs.Trail.{SoundStep, SoundSteps, step_meaning, trail_meaning}
 use Rattle.listed.specs.Lists.{In}
 
 -- the rows of the book of a step, if it has one

@@ -1,6 +1,8 @@
--- Rounds, whatever comes after merging, so that one proof of their end serves each choice of parts.
+-- Rounds that go on after merging with any function, the tail. So one proof that rounds end serves
+-- each choice of the parts that come after merging.
 use Rattle.std.specs.Prelude.{◌≡◌, ℕ, zero, suc, ◌<◌, Bool, List, [], ◌⊎◌, ◌↔◌, length}
-use Rattle.row_book.specs.{Sets.{NumSet}, Repository.{Repository, Coinst, clauses_of}, Sound.{SoundRepository, TidyRepository}, Flattening.{flat}}
+use Rattle.row_book.specs.{Sets.{NumSet}, Repository.{Repository, Coinst, clauses_of}}
+use Rattle.row_book.specs.{Sound.{SoundRepository, TidyRepository}, Flattening.{flat}}
 use Rattle.row_book.specs.{Merging.{image, quotient}, Thinning.{conflicting_pairs}, Rounds.{weigh}}
 use Rattle.listed.specs.Lists.{In}
 use Rattle.clause_pool.specs.Lists.{InOrder}

@@ -1,7 +1,8 @@
 //! From one round to the next.
 ghost use Rattle.std.specs.Prelude.{Bool, ◌≡◌, ◌<◌, IfOk, eqb, length, map, ℕ};
 ghost use Rattle.clause_pool.specs.Interned.{Interned, IsPool, Kept};
-ghost use Rattle.row_book.specs.{Book.{repository_of, AddsOnly, IsSameBook, Sound}, Merging.{place_of}, Numbers.{numbers}, Repository.{Repository}};
+ghost use Rattle.row_book.specs.Book.{repository_of, AddsOnly, IsSameBook, Sound};
+ghost use Rattle.row_book.specs.{Merging.{place_of}, Numbers.{numbers}, Repository.{Repository}};
 ghost use Rattle.row_book.specs.{Rounds.{round}, Sound.{SoundRepository}};
 ghost use Rattle.class_merge.specs.Classes.{class_in};
 ghost use Rattle.kernel_rounds.specs.Extracting.{refusal, IsMidway, IsReduced};

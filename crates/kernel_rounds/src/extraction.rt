@@ -4,9 +4,12 @@
 //! carries the first repository on. The first book has the same ids in both pools.
 ghost use Rattle.std.specs.Prelude.{Some, ◌≡◌, ◌<◌, IfErr, IfOk, ℕ};
 ghost use Rattle.clause_pool.specs.Interned.{Interned, IsPool, Kept};
-ghost use Rattle.row_book.specs.{Book.{repository_of, AddsOnly, Sound}, Keeping.{KeepsImages}, Repository.{Repository}, Sound.{SoundRepository}};
+ghost use Rattle.row_book.specs.{Book.{repository_of, AddsOnly, Sound}, Keeping.{KeepsImages}};
+ghost use Rattle.row_book.specs.{Repository.{Repository}, Sound.{SoundRepository}};
 ghost use Rattle.row_book.specs.Rounds.{kernel_image, limit_at, round, Settled};
-ghost use Rattle.kernel_rounds.specs.{Extracting.{HasStepsBefore, IsExtracted, IsMidway, IsOwnKernel, IsReduced, OnRoundLimit}, Moving.{live_rows}};
+ghost use Rattle.kernel_rounds.specs.Extracting.{HasStepsBefore, IsExtracted, IsMidway};
+ghost use Rattle.kernel_rounds.specs.Extracting.{IsOwnKernel, IsReduced, OnRoundLimit};
+ghost use Rattle.kernel_rounds.specs.Moving.{live_rows};
 
 use crate::advancing::{Progress, begin, go_on, round_error};
 use crate::error::RoundError;

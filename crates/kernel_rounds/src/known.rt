@@ -1,10 +1,13 @@
 //! The rounds after the first, kept from an earlier extraction. Many books that differ by a few
 //! changes come to one and the same repository by their first round, so that the rounds after it
 //! need not be run again.
-ghost use Rattle.std.specs.{Prelude.{◌≡◌, ◌<◌, false, None, Some, IfOk}, Bool.{OnTrue}, Option.{ForSome}};
+ghost use Rattle.std.specs.{Prelude.{◌≡◌, ◌<◌, false, None, Some, IfOk}, Bool.{OnTrue}};
+ghost use Rattle.std.specs.Option.{ForSome};
 ghost use Rattle.class_merge.specs.Masks.{IsMaskOfRows};
-ghost use Rattle.row_book.specs.{Book.{repository_of, Sound}, Repository.{Repository}, Rounds.{limit_at}};
-ghost use Rattle.kernel_rounds.specs.{Known.{AreKnownRounds, AreRoundsOf, IsClassifiedPart, IsFlatPart}, declared.known.KnownRounds.{KnownRounds}};
+ghost use Rattle.row_book.specs.{Book.{repository_of, Sound}, Repository.{Repository}};
+ghost use Rattle.row_book.specs.Rounds.{limit_at};
+ghost use Rattle.kernel_rounds.specs.Known.{AreKnownRounds, AreRoundsOf, IsClassifiedPart};
+ghost use Rattle.kernel_rounds.specs.{Known.{IsFlatPart}, declared.known.KnownRounds.{KnownRounds}};
 
 use crate::advancing::compose;
 use crate::error::RoundError;

@@ -18,7 +18,6 @@ pub use rounding::{Rounded, one_round};
 
 // Laws.
 pub use laws::{
-    fixed_is_settled, fixed_parts, flat_plain, hold_is_unused, image_is_of_classes,
-    kernel_behind_round, kernel_is, kernel_keeps, kernel_of_kernel, limit_without_hold,
-    rounds_go_down, tails_end, tails_keep, three_tails,
+    fixed_is_settled, fixed_parts, hold_is_unused, image_is_of_classes, kernel_behind_round,
+    kernel_is, kernel_keeps, kernel_of_kernel, limit_without_hold, rounds_go_down,
 };

@@ -3,7 +3,8 @@ ghost use Rattle.std.specs.Prelude.{◌≡◌, ℕ, List, IfOk};
 ghost use Rattle.clause_pool.specs.{Interned.{Interned}, Compacting.{Compacts, Knows}};
 ghost use Rattle.listed.specs.Lists.{In};
 ghost use Rattle.row_book.specs.{Book.{IsSameBook, Sound}, Trail.{SoundSteps}};
-ghost use Rattle.kernel_rounds.specs.Moving.{live_rows, step_rows, trail_rows, AreSameSteps, HasOnly, IsSameStep};
+ghost use Rattle.kernel_rounds.specs.Moving.{live_rows, step_rows, trail_rows, AreSameSteps};
+ghost use Rattle.kernel_rounds.specs.Moving.{HasOnly, IsSameStep};
 
 use clause_pool::{NumList, Pool, Remap, RowId};
 use listed::Listed;

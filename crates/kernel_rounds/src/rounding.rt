@@ -1,9 +1,13 @@
 //! One round of reduction.
-ghost use Rattle.std.specs.Prelude.{◌≡◌, ◌<◌, ◌↔◌, ◌∷◌, ◌++◌, [], false, if◌then◌else◌, IfErr, IfOk, None, OnOk, Some, map};
+ghost use Rattle.std.specs.Prelude.{◌≡◌, ◌<◌, ◌↔◌, ◌∷◌, ◌++◌, [], false, if◌then◌else◌, IfErr};
+ghost use Rattle.std.specs.Prelude.{IfOk, None, OnOk, Some, map};
 ghost use Rattle.clause_pool.specs.Interned.{Kept};
 ghost use Rattle.clause_flatten.specs.Refusals.{OnLimit};
-ghost use Rattle.row_book.specs.{Book.{repository_of, RowsTidy, Sound}, Flattening.{flat, held_of, passes}, Merging.{class_list}, Pruning.{idle_steps, prune}};
-ghost use Rattle.row_book.specs.{Rounds.{IdleStep, round, round_steps}, Thinning.{thin}, Trail.{SoundSteps, trail_meaning}};
+ghost use Rattle.row_book.specs.Book.{repository_of, RowsTidy, Sound};
+ghost use Rattle.row_book.specs.{Flattening.{flat, held_of, passes}, Merging.{class_list}};
+ghost use Rattle.row_book.specs.Pruning.{idle_steps, prune};
+ghost use Rattle.row_book.specs.{Rounds.{IdleStep, round, round_steps}, Thinning.{thin}};
+ghost use Rattle.row_book.specs.Trail.{SoundSteps, trail_meaning};
 ghost use Rattle.row_book.specs.declared.trail.Step.TheVariants.{Flat, Merge};
 ghost use Rattle.kernel_rounds.specs.{Extracting.{IsReduced}, Moving.{live_rows, HasOnly}};
 

@@ -1,6 +1,6 @@
 -- What a line that is allowed says, and what the lines of a text give.
-use Rattle.std.proofs.Common.{◌≡◌, ℕ, ◌<◌, ◌==◌, ◌&&◌, ◌||◌, not, Bool, true, false, List, [], ◌∷◌, length, Option, Some, None, inl, inr, refl, sym, ap₂, subst, eq-eqb, eqb-true}
-use Rattle.std.proofs.lemmas.Bool.{and_from, and_parts, false_from_ne_true, false≢true, lt-ltb, ltb-true, or_cases}
+use Rattle.std.proofs.Common.{◌≡◌, ℕ, ◌<◌, ◌==◌, ◌&&◌, ◌||◌, not, Bool, true, false, List, [], ◌∷◌, length, Option, Some, None, inl, inr, refl, sym, ap₂, subst}
+use Rattle.std.proofs.{Common.{eq-eqb, eqb-true}, lemmas.Bool.{and_from, and_parts, false_from_ne_true, false≢true, lt-ltb, ltb-true, or_cases}}
 use Rattle.std.specs.{Prelude.{nat_lt, is_none}, List.{list_all}}
 use Rattle.clause_pool.specs.Lists.{Before}
 use Rattle.clause_pool.proofs.Order.{before_is, before_test}
@@ -10,7 +10,9 @@ use Rattle.listed.specs.Lists.{Ascending, In, has}
 use Rattle.row_book.specs.Repository.{Repository}
 use Rattle.kernel_text.specs.{declared.member.Member.{Member}, Reader.{IsInRange, IsNew}, StoredReading.{ends_with}, Words.{IsWellFormed}}
 use Rattle.kernel_text.specs.KernelLines.{KernelLine, HeadLine, ClassLine, MemberLine, HeldLine, NeedsLine, AgainstLine, EndLine, line_text, lines_of}
-use Rattle.kernel_text.specs.Reading.{IsFormat, IsNamed, Reading, are_low, ascends, empty_reading, is_allowed, is_same_member, kind_of_last, last_needs, may_add_clause, may_add_conflict, may_add_held, may_add_member, may_begin, member_of_line, number_limit, repository_of_reading, this_class, with_line}
+use Rattle.kernel_text.specs.Reading.{IsFormat, IsNamed, Reading, are_low, ascends, empty_reading, is_allowed, is_same_member, kind_of_last, last_needs}
+use Rattle.kernel_text.specs.Reading.{may_add_clause, may_add_conflict, may_add_held, may_add_member, may_begin, member_of_line, number_limit}
+use Rattle.kernel_text.specs.Reading.{repository_of_reading, this_class, with_line}
 
 -- that a test is passed
 abbrev pub So : Bool → Type 0

@@ -1,6 +1,8 @@
 -- What the blocks of classes say, one behind the other, and that they are the lines of the kernel that they say.
-use Rattle.std.proofs.Common.{◌≡◌, ◌≢◌, ℕ, zero, suc, ◌+◌, ◌<◌, ◌≤◌, Bool, true, false, ◌&&◌, eqb, ltb, List, [], ◌∷◌, ◌++◌, ◌⊎◌, Option, Some, length, map, filter, get_or, inl, inr, refl, sym, ap, ap₂, ◌∙◌, subst, add-one, zero-add, eq-eqb, arith}
-use Rattle.std.proofs.{lemmas.Bool.{and_from, false_from_ne_true, or_left, lt-ltb, ltb-true}, lemmas.List.{append-nil}, lemmas.List.Elements.{filter-append}}
+use Rattle.std.proofs.Common.{◌≡◌, ◌≢◌, ℕ, zero, suc, ◌+◌, ◌<◌, ◌≤◌, Bool, true, false, ◌&&◌, eqb, ltb, List, [], ◌∷◌, ◌++◌, ◌⊎◌, Option, Some, length, map}
+use Rattle.std.proofs.Common.{filter, get_or, inl, inr, refl, sym, ap, ap₂, ◌∙◌, subst, add-one, zero-add, eq-eqb, arith}
+use Rattle.std.proofs.{lemmas.Bool.{and_from, false_from_ne_true, or_left, lt-ltb, ltb-true, ne_eqb}, lemmas.List.{append-nil}}
+use Rattle.std.proofs.lemmas.List.Elements.{filter-append}
 use Rattle.std.specs.List.{flat_map}
 use Rattle.row_book.specs.{Book.{are_paired, lists_of_pairs}, Numbers.{numbers}, Repository.{Repository, clauses_of, conflicts_of}, declared.pair.Pair.{Pair}}
 use Rattle.listed.specs.Lists.{Ascending, In, has, here, there}
@@ -11,8 +13,9 @@ use Rattle.kernel_text.specs.{declared.member.Member.{Member}, KernelLines.{Kern
 use Rattle.kernel_text.specs.Reading.{clauses_of_class, Reading, ClassClause}
 use Rattle.kernel_text.specs.KernelText.{class_lines, greater_conflicts, held_lines, kernel_lines, line_of_member}
 use Rattle.kernel_text.proofs.LineCuts.{with_lines}
-use Rattle.kernel_text.proofs.Printed.{reading_at, clause_entry, held_entries, pair_of, last_of, with_append, members_reading, held_reading, clauses_reading, conflicts_reading, held_last, clauses_last, conflicts_last, regrouped}
-use Rattle.kernel_text.proofs.{Retold.{eqb_other}, ClassLines.{Block, FitBlock, FitBlocks, HeldInSecond, block_lines, empty, over_blocks}}
+use Rattle.kernel_text.proofs.Printed.{reading_at, clause_entry, held_entries, pair_of, last_of, with_append, members_reading, held_reading, clauses_reading}
+use Rattle.kernel_text.proofs.Printed.{conflicts_reading, held_last, clauses_last, conflicts_last, regrouped}
+use Rattle.kernel_text.proofs.ClassLines.{Block, FitBlock, FitBlocks, HeldInSecond, block_lines, empty, over_blocks}
 
 -- what blocks tell
 abbrev pub NotEnd : Option KernelLine → Type 0
@@ -96,7 +99,7 @@ filter_all key n (x ∷ xs) h = rw (eq-eqb (key x) n (h x here)) (ap (λ ys. x �
 
 pub filter_none : {A : Type 0} (key : A → ℕ) (n : ℕ) (xs : List A) → ((x : A) → In x xs → key x ≢ n) → filter (λ x. eqb (key x) n) xs ≡ []
 filter_none key n [] h = refl
-filter_none key n (x ∷ xs) h = rw (eqb_other (key x) n (h x here)) (filter_none key n xs (λ y i. h y (there i)))
+filter_none key n (x ∷ xs) h = rw (ne_eqb (key x) n (h x here)) (filter_none key n xs (λ y i. h y (there i)))
 
 abbrev pub Keyed : {A : Type 0} → (A → ℕ) → (ℕ → Block → List A) → ℕ → List Block → Type 0
 Keyed {A} key f k [] = Unit {0}

@@ -1,6 +1,7 @@
 -- The packages of an index, class by class, are the members of a kernel that the format can write.
-use Rattle.std.proofs.Common.{◌≡◌, ◌≢◌, ℕ, zero, suc, ◌+◌, ◌<◌, ◌≤◌, Bool, true, false, ◌&&◌, eqb, List, [], ◌∷◌, ◌++◌, length, filter, inl, inr, refl, sym, ap, ap₂, ◌∙◌, subst, eq-eqb, eqb-true, arith, length-append}
-use Rattle.std.proofs.{lemmas.Bool.{cases_eq}, lemmas.List.{append-nil}, lemmas.List.Elements.{filter-append}, lemmas.Slice.Eq.{bytes_eq-Decides}}
+use Rattle.std.proofs.Common.{◌≡◌, ◌≢◌, ℕ, zero, suc, ◌+◌, ◌<◌, ◌≤◌, Bool, true, false, ◌&&◌, eqb, List, [], ◌∷◌, ◌++◌, length, filter, inl, inr, refl, sym, ap}
+use Rattle.std.proofs.{Common.{ap₂, ◌∙◌, subst, eq-eqb, eqb-true, arith, length-append}, lemmas.Bool.{cases_eq, ne_eqb}, lemmas.List.{append-nil}}
+use Rattle.std.proofs.{lemmas.List.Elements.{filter-append}, lemmas.Slice.Eq.{bytes_eq-Decides}}
 use Rattle.std.specs.{List.{flat_map}, Ordering.{is_eq, ordering_reverse}, Str.{bytes_eq}, declared.cmp.Ordering.{Ordering}}
 use Rattle.std.specs.declared.cmp.Ordering.TheVariants.{Less, Equal, Greater}
 use Rattle.repo_model.specs.Limits.{most_packages}
@@ -14,7 +15,7 @@ use Rattle.listed.specs.Lists.{In, here, there}
 use Rattle.row_book.proofs.Numbers.{numbers_parts}
 use Rattle.kernel_text.specs.{declared.member.Member.{Member}, KernelText.{AreSingle, IsWritable, members_of}, Laws.{IsKernelOf, KernelsAreWritable}}
 use Rattle.kernel_text.specs.{Members.{file_members, kernel_members, member_in}, Reading.{IsNamed, is_same_member, number_limit}}
-use Rattle.kernel_text.proofs.{Blocks.{filter_all, filter_none}, Retold.{eqb_other}}
+use Rattle.kernel_text.proofs.Blocks.{filter_all, filter_none}
 
 -- of the members of a class those of one class: all or none
 own_members : (ms : List Member) (n : ℕ) → members_of (members_of ms n) n ≡ members_of ms n
@@ -54,7 +55,7 @@ all_of_class ms (suc j) k n l u =
 none_counted : (m : Member) (ms : List Member) (j k : ℕ) → m.class < k → by_classes (m ∷ ms) j k ≡ by_classes ms j k
 unfolding numbers
 none_counted m ms zero k l = refl
-none_counted m ms (suc j) k l = rw (eqb_other m.class k (λ e. absurd (omega (arith, e)))) (ap (λ xs. members_of ms k ++ xs) (none_counted m ms j (suc k) (omega arith)))
+none_counted m ms (suc j) k l = rw (ne_eqb m.class k (λ e. absurd (omega (arith, e)))) (ap (λ xs. members_of ms k ++ xs) (none_counted m ms j (suc k) (omega arith)))
 
 one_counted : (m : Member) (ms : List Member) (j k : ℕ) → k ≤ m.class → m.class < k + j → length (by_classes (m ∷ ms) j k) ≡ suc (length (by_classes ms j k))
 unfolding numbers
@@ -63,7 +64,7 @@ one_counted m ms (suc j) k l u =
     elim (cases_eq m.class k) [
       | inl e ↦ rw (eq-eqb m.class k e) (ap (λ xs. suc (length (members_of ms k ++ xs))) (none_counted m ms j (suc k) (omega (arith, e))))
       | inr ne ↦
-          rw (eqb_other m.class k ne)
+          rw (ne_eqb m.class k ne)
           (length-append (members_of ms k) (by_classes (m ∷ ms) j (suc k)) ∙ ap (λ n. length (members_of ms k) + n) (one_counted m ms j (suc k) (omega (arith, ne)) (omega arith))
           ∙ added (length (members_of ms k)) (length (by_classes ms j (suc k))) ∙ ap suc (sym (length-append (members_of ms k) (by_classes ms j (suc k)))))
     ]

@@ -1,6 +1,6 @@
 -- The first line of a text.
-use Rattle.std.proofs.Common.{◌≡◌, ℕ, zero, suc, ◌+◌, ◌-◌, ◌==◌, ◌<◌, true, false, List, [], ◌∷◌, Some, None, length, take, drop, get_or, refl, sym, ap, ap₂, ◌∙◌, subst, arith}
-use Rattle.std.proofs.{lemmas.Bool.{false_from_ne_true}, lemmas.List.{length-drop, drop-drop}}
+use Rattle.std.proofs.Common.{◌≡◌, ℕ, zero, suc, ◌+◌, ◌-◌, ◌==◌, ◌<◌, true, false, List, [], ◌∷◌, Some, None, length, take, drop, get_or, refl, sym, ap, ap₂}
+use Rattle.std.proofs.{Common.{◌∙◌, subst, arith}, lemmas.Bool.{false_from_ne_true}, lemmas.List.{length-drop, drop-drop}}
 use Rattle.listed.proofs.Lists.{to_end}
 use Rattle.memchr.specs.Find.{IsFirstByte, is_byte}
 use Rattle.kernel_text.specs.KernelLines.{lines_of}

@@ -1,6 +1,6 @@
 -- What a pool gains while the clauses of classes, and then their rows, are put into it.
-use Rattle.std.proofs.Common.{◌≡◌, ℕ, zero, suc, ◌+◌, ◌<◌, ◌≤◌, List, [], ◌∷◌, ◌++◌, length, get_or, set, take, inl, inr, refl, sym, ap, ◌∙◌, subst, length-append, arith}
-use Rattle.std.proofs.{lemmas.Bool.{cases_eq, cases_lt}, lemmas.List.{get_or-set_same, get_or-set_other, get_or_push, take_more}}
+use Rattle.std.proofs.Common.{◌≡◌, ℕ, zero, suc, ◌+◌, ◌<◌, ◌≤◌, List, [], ◌∷◌, ◌++◌, length, get_or, set, take, inl, inr, refl, sym, ap, ◌∙◌, subst}
+use Rattle.std.proofs.{Common.{length-append, arith}, lemmas.Bool.{cases_eq, cases_lt}, lemmas.List.{get_or-set_same, get_or-set_other, get_or_push, take_more}}
 use Rattle.clause_pool.specs.Interned.{Gains, Interned, IsIdOf, Kept, ids_at}
 use Rattle.row_book.specs.Book.{AddsOnly, listed_for}
 use Rattle.listed.specs.Lists.{In, here, there}

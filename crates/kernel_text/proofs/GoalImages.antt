@@ -1,6 +1,7 @@
 -- The classes that goals name, goal by goal.
-use Rattle.std.proofs.Common.{◌≡◌, ℕ, zero, suc, ◌+◌, ◌<◌, Bool, true, false, not, ◌&&◌, ◌==◌, eqb, eqb-true, eq-eqb, List, [], ◌∷◌, ◌++◌, length, map, filter, take, drop, get_or, Option, Some, None, inl, inr, refl, sym, ap, ap₂, ◌∙◌, subst, cond, zero-add, arith}
-use Rattle.std.proofs.{Math.Bool.{and-true}, Math.Seq.{drop-cons}, lemmas.Bool.{and_from, and_parts, false≢true, false_from_ne_true, not_from_false}}
+use Rattle.std.proofs.Common.{◌≡◌, ℕ, zero, suc, ◌+◌, ◌<◌, Bool, true, false, not, ◌&&◌, ◌==◌, eqb, eqb-true, eq-eqb, List, [], ◌∷◌, ◌++◌, length, map, filter}
+use Rattle.std.proofs.{Common.{take, drop, get_or, Option, Some, None, inl, inr, refl, sym, ap, ap₂, ◌∙◌, subst, cond, zero-add, arith}, Math.Bool.{and-true}}
+use Rattle.std.proofs.{Math.Seq.{drop-cons}, lemmas.Bool.{and_from, and_parts, false≢true, false_from_ne_true, not_from_false}}
 use Rattle.std.proofs.lemmas.List.{map-append, take_more}
 use Rattle.std.specs.{Prelude.{◌↔◌, slice_get}, Option.{option_map_or}, List.{list_any, position_from}, Ordering.{is_eq}, Str.{bytes_eq}}
 use Rattle.deb_version.specs.Order.{version_order}
@@ -92,10 +93,6 @@ image_is members size goal classes image inside are ascending same =
     filter_from (names_in_class members goal) (numbers size 0) n (number_in size 0 n (omega arith) (omega (arith, e, l))) h in
     let back : Inside all image = λ n i. (same n).1 (has_In classes n (are n ∙ (filter_cases (names_in_class members goal) (numbers size 0) n i).1)) in
     ascending_same image all ascending (ascending_filter (names_in_class members goal) (numbers size 0) (numbers_ascending size 0)) to back
-
-pub none_there : (xs : List ℕ) → (length xs == 0) ≡ true → xs ≡ []
-none_there [] e = refl
-none_there (x ∷ xs) e = absurd (let l : suc (length xs) ≡ 0 = eqb-true (suc (length xs)) 0 e in omega (arith, l))
 
 pub some_there : (xs : List ℕ) → (length xs == 0) ≡ false → 0 < length xs
 some_there [] e = absurd (false≢true (sym e))

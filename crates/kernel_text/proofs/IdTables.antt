@@ -1,7 +1,7 @@
 -- The ids of the clauses of each class, and their rows.
 use Rattle.std.specs.Prelude.{IfOk}
-use Rattle.std.proofs.Common.{◌≡◌, ◌≢◌, ℕ, suc, Result, Ok, Err, ◌+◌, ◌<◌, List, [], ◌∷◌, ◌++◌, length, map, filter, get_or, set, take, eqb, inl, inr, refl, sym, ap, ap₂, ◌∙◌, subst, eq-eqb, zero-add, arith}
-use Rattle.std.proofs.{Math.ListN.{length-set}, lemmas.Bool.{cases_eq}}
+use Rattle.std.proofs.Common.{◌≡◌, ◌≢◌, ℕ, suc, Result, Ok, Err, ◌+◌, ◌<◌, List, [], ◌∷◌, ◌++◌, length, map, filter, get_or, set, take, eqb, inl, inr, refl}
+use Rattle.std.proofs.{Common.{sym, ap, ap₂, ◌∙◌, subst, eq-eqb, zero-add, arith}, Math.ListN.{length-set}, lemmas.Bool.{cases_eq, ne_eqb}}
 use Rattle.std.proofs.lemmas.List.{append-nil, ext_get_or, get_or-map, get_or-set_same, get_or-set_other, length-map, map-append, take_more}
 use Rattle.std.proofs.lemmas.List.Elements.{filter-append}
 use Rattle.clause_pool.specs.{Interned.{Interned, IsIdOf, Kept, OfPool, clauses_at, ids_at, row_at}, Lists.{InOrder}}
@@ -14,7 +14,6 @@ use Rattle.row_book.proofs.Numbers.{at_numbers, length_numbers}
 use Rattle.kernel_text.specs.{declared.reader.Clause.{Clause}, Booking.{AreRows, HasIdsByClass, IsBookable}}
 use Rattle.kernel_text.specs.{Reading.{clauses_of_class, repository_of_reading, ClassClause, Reading}, declared.reader.Reader.{Reader}}
 use Rattle.kernel_text.specs.Reader.{HoldsReading, entry_of}
-use Rattle.kernel_text.proofs.Retold.{eqb_other}
 
 pub no_ids : (pool : Interned) (classes : ℕ) (table : List (List ℕ)) → length table ≡ classes → ((n : ℕ) → listed_for table n ≡ []) → HasIdsByClass pool [] classes table
 no_ids pool classes table count empty = record {
@@ -52,7 +51,7 @@ module _ (old new : Interned) (entries : List ClassClause) (entry : ClassClause)
   mine n e = rw (eq-eqb entry.class n e) refl
 
   not_mine : (n : ℕ) → entry.class ≢ n → clauses_of_class (entry ∷ []) n ≡ []
-  not_mine n ne = rw (eqb_other entry.class n ne) refl
+  not_mine n ne = rw (ne_eqb entry.class n ne) refl
 
   of_pool_own : OfPool new (ids ++ id ∷ [])
   of_pool_own other i = elim (In_append_cases ids (id ∷ []) other i) [

@@ -1,5 +1,6 @@
 -- What `serde_json` writes for a kernel.
-use Rattle.std.proofs.Common.{append-nil, filter, ltb, ◌≡◌, ◌≢◌, ℕ, zero, suc, ◌+◌, ◌/◌, ◌%◌, ◌<◌, ◌≤◌, Bool, true, false, cond, ◌||◌, ◌==◌, eqb-true, List, [], ◌∷◌, ◌++◌, length, map, Option, Some, None, take, get_or, inl, inr, refl, sym, ap, ap₂, ◌∙◌, subst, append_assoc, codes, arith}
+use Rattle.std.proofs.Common.{append-nil, filter, ltb, ◌≡◌, ◌≢◌, ℕ, zero, suc, ◌+◌, ◌/◌, ◌%◌, ◌<◌, ◌≤◌, Bool, true, false, cond, ◌||◌, ◌==◌, eqb-true, List, []}
+use Rattle.std.proofs.Common.{◌∷◌, ◌++◌, length, map, Option, Some, None, take, get_or, inl, inr, refl, sym, ap, ap₂, ◌∙◌, subst, append_assoc, codes, arith}
 use Rattle.std.proofs.lemmas.Bool.{and_parts, false_from_ne_true, false≢true, le-ltb, leb-true, lt-ltb, ltb-true, or_cases}
 use Rattle.std.proofs.{lemmas.List.{map-append, take_more}, lemmas.List.Elements.{filter-append}}
 use Rattle.std.specs.{Prelude.{nat_lt, nat_le}, Char.{digit_char, is_ascii_alphanumeric}, Int.{is_in_range}, Fmt.{decimal}, List.{list_all}, Str.{IsAscii}}
@@ -17,10 +18,12 @@ use Rattle.serde_json.specs.{Written.{compact_text, has_float, items_have_float,
 use Rattle.serde_json.specs.declared.value.Value.TheVariants.{Array}
 use Rattle.serde_json.proofs.Views.{view-Array}
 use Rattle.kernel_text.specs.declared.member.Member.{Member}
-use Rattle.kernel_text.specs.JsonData.{class_data, clauses_data, data_of_class, kernel_data, list_data, mark_of_class, number_data, numbers_data, package_data, packages_data, with_told}
-use Rattle.kernel_text.specs.KernelJson.{behind_commas, class_json, held_mark, kernel_json, list_json, member_json, numbers_json, object_json, package_json, quoted_text}
-use Rattle.kernel_text.specs.{KernelLines.{KernelLine, MemberLine}, KernelText.{format_of, greater_conflicts, line_of_member, members_of}}
-use Rattle.kernel_text.specs.{Members.{kernel_members}, Writing.{IsByClass, NumbersPackages, TellHeld, line_of_package}}
+use Rattle.kernel_text.specs.JsonData.{class_data, clauses_data, data_of_class, kernel_data, list_data, mark_of_class, number_data, numbers_data, package_data}
+use Rattle.kernel_text.specs.JsonData.{packages_data, with_told}
+use Rattle.kernel_text.specs.KernelJson.{behind_commas, class_json, held_mark, kernel_json, list_json, member_json, numbers_json, object_json, package_json}
+use Rattle.kernel_text.specs.{KernelJson.{quoted_text}, KernelLines.{KernelLine, MemberLine}}
+use Rattle.kernel_text.specs.{KernelText.{format_of, greater_conflicts, line_of_member, members_of}, Members.{kernel_members}}
+use Rattle.kernel_text.specs.Writing.{IsByClass, NumbersPackages, TellHeld, line_of_package}
 use Rattle.kernel_text.proofs.Written.{members_are}
 
 -- lists

@@ -34,3 +34,5 @@ pub mod StoredReading
 pub mod Extracted
 pub mod LineCounts
 pub mod Serving
+-- named here too, so that an attribute that cites it fits in a line
+pub use Rattle.std.proofs.Common.{append_assoc}

@@ -5,8 +5,8 @@ use Rattle.std.specs.{Fmt.{decimal}, List.{flat_map, list_all}}
 use Rattle.deb_version.specs.Grammar.{is_upstream_byte}
 use Rattle.relation_fields.proofs.Bytes.{version_bytes}
 use Rattle.listed.specs.Lists.{In, here, there}
-use Rattle.kernel_text.specs.KernelLines.{KernelLine, HeadLine, ClassLine, MemberLine, HeldLine, NeedsLine, AgainstLine, EndLine, lines_of, line_text, behind_space}
-use Rattle.kernel_text.specs.Reading.{Reading, with_line, number_limit}
+use Rattle.kernel_text.specs.KernelLines.{KernelLine, HeadLine, ClassLine, MemberLine, HeldLine, NeedsLine, AgainstLine, EndLine, lines_of, line_text}
+use Rattle.kernel_text.specs.{KernelLines.{behind_space}, Reading.{Reading, with_line, number_limit}}
 use Rattle.kernel_text.proofs.{Allowed.{IsAllowed, LinesGive}, Spelling.{Plain, decimal_plain, format_low, name_plain}}
 
 -- no line feed

@@ -1,5 +1,6 @@
 -- The words of a line, and what they say.
-use Rattle.std.proofs.Common.{◌≡◌, ℕ, zero, suc, ◌-◌, ◌<◌, Bool, true, false, eqb, not, ◌==◌, List, [], ◌∷◌, ◌++◌, Option, Some, None, length, take, drop, get_or, inr, refl, sym, ap, ap₂, ◌∙◌, subst, codes, eqb-true, arith}
+use Rattle.std.proofs.Common.{◌≡◌, ℕ, zero, suc, ◌-◌, ◌<◌, Bool, true, false, eqb, not, ◌==◌, List, [], ◌∷◌, ◌++◌, Option, Some, None, length, take, drop}
+use Rattle.std.proofs.Common.{get_or, inr, refl, sym, ap, ap₂, ◌∙◌, subst, codes, eqb-true, arith}
 use Rattle.std.proofs.lemmas.Bool.{and_parts, and_from, both_ways, false_from_ne_true, not-true, not_from_false}
 use Rattle.std.proofs.{lemmas.List.{append-nil, append_cancel_right, length-append, take-append-drop}, lemmas.Slice.Eq.{bytes_eq-Decides, starts_is}}
 use Rattle.std.proofs.{lemmas.Bool.Decides.{Decides-eqb}, lemmas.Option.{same_Some}}

@@ -1,11 +1,11 @@
 -- Which classes are held, by flags.
-use Rattle.std.proofs.Common.{◌≡◌, ℕ, ◌+◌, ◌<◌, Bool, true, false, ◌||◌, eqb, List, [], ◌∷◌, ◌++◌, length, take, get_or, set, replicate, inl, inr, refl, sym, ap, ◌∙◌, subst, arith}
-use Rattle.std.proofs.{Math.ListN.{length-set}, lemmas.Bool.{cases_eq}, lemmas.List.{get_or-replicate, get_or-set_other, get_or-set_same, take_more}}
+use Rattle.std.proofs.Common.{◌≡◌, ℕ, ◌+◌, ◌<◌, Bool, true, false, ◌||◌, eqb, List, [], ◌∷◌, ◌++◌, length, take, get_or, set, replicate, inl, inr, refl, sym}
+use Rattle.std.proofs.{Common.{ap, ◌∙◌, subst, arith}, Math.ListN.{length-set}, lemmas.Bool.{cases_eq, ne_eqb}}
+use Rattle.std.proofs.lemmas.List.{get_or-replicate, get_or-set_other, get_or-set_same, take_more}
 use Rattle.row_book.specs.Flags.{flag}
 use Rattle.listed.specs.Lists.{has, here}
 use Rattle.listed.proofs.Lists.{In_append_right, In_has}
 use Rattle.kernel_text.specs.Writing.{TellHeld}
-use Rattle.kernel_text.proofs.Retold.{eqb_other}
 
 pub none_marked : (flags : List Bool) → flags ≡ replicate (length flags) false → TellHeld flags [] (length flags)
 none_marked flags none = record { count = refl; each = λ n l. ap (λ fs. flag fs n) none ∙ get_or-replicate (length flags) n false false l }
@@ -15,7 +15,7 @@ has_last : (xs : List ℕ) (c : ℕ) → has (xs ++ c ∷ []) c ≡ true
 has_last xs c = In_has (In_append_right xs (c ∷ []) c here)
 
 has_other : (xs : List ℕ) (c n : ℕ) → (n ≡ c → ⊥) → has (xs ++ c ∷ []) n ≡ has xs n
-has_other [] c n ne = rw (eqb_other n c ne) refl
+has_other [] c n ne = rw (ne_eqb n c ne) refl
 has_other (x ∷ xs) c n ne = ap (λ b. eqb n x || b) (has_other xs c n ne)
 
 pub one_marked : (flags new : List Bool) (held : List ℕ) (i size c : ℕ) → i < length held → c ≡ get_or held i 0 → TellHeld flags (take i held) size → new ≡ set flags c true →

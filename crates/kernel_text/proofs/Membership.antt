@@ -3,12 +3,12 @@ use Rattle.std.proofs.Common.{◌≡◌, ℕ, ◌+◌, true, false, List, [], �
 use Rattle.std.proofs.lemmas.Bool.{false≢true, false_from_ne_true}
 use Rattle.std.specs.{Prelude.{◌&&◌, ◌==◌, slice_get}, Option.{option_map_or}, Str.{bytes_eq}}
 use Rattle.listed.specs.Lists.{In, here}
-use Rattle.listed.proofs.Lists.{In_none}
+use Rattle.listed.proofs.Lists.{In_none, none_listed}
 use Rattle.package_register.specs.{Numbers.{numbers_where, passes_at}, Registers.{is_version_of}}
 use Rattle.package_register.proofs.Numbered.{numbered_pass, passing_numbered}
 use Rattle.repo_model.proofs.Indexed.{either_way}
 use Rattle.kernel_text.specs.{declared.member.Member.{Member}, KernelLines.{MemberLine, NeedsLine}, Reader.{IsNew}, Reading.{is_same_member}}
-use Rattle.kernel_text.proofs.GoalImages.{got_in, in_got, none_there}
+use Rattle.kernel_text.proofs.GoalImages.{got_in, in_got}
 
 pub other_line : (name version clause : List ℕ) → Some (MemberLine name version) ≡ Some (NeedsLine clause) → ⊥
 other_line name version clause e = let f : ⊥ = cc in f
@@ -25,7 +25,7 @@ new_member members m same are none o inside =
     false_from_ne_true (is_same_member m o) (λ h.
     let at : (i : ℕ) × (slice_get members i ≡ Some o) = in_got members o inside in
     let passes : passes_at test members at.0 ≡ true = ap (λ found. option_map_or test found false) at.1 ∙ same_tests m o ∙ h in
-    In_none (subst (λ ns. In (0 + at.0) ns) (sym are ∙ none_there same none) (passing_numbered test 0 members at.0 passes)))
+    In_none (subst (λ ns. In (0 + at.0) ns) (sym are ∙ none_listed same none) (passing_numbered test 0 members at.0 passes)))
 
 old_at : (members : List Member) (m : Member) (i : ℕ) → IsNew m members → (found : Option Member) → slice_get members i ≡ found
     → option_map_or (is_version_of (λ x. x.name) (λ x. x.version) m.name m.version) found false ≡ true → ⊥

@@ -1,6 +1,6 @@
 -- The numbers of a clause, word by word.
-use Rattle.std.proofs.Common.{◌≡◌, ℕ, suc, ◌+◌, ◌<◌, List, [], ◌∷◌, ◌++◌, Option, Some, None, inl, inr, refl, sym, ap, ◌∙◌, subst, append_assoc, length, length-append, arith}
-use Rattle.std.proofs.{lemmas.Grind.{flat_map-append}, lemmas.List.{append-nil}}
+use Rattle.std.proofs.Common.{◌≡◌, ℕ, suc, ◌+◌, ◌<◌, List, [], ◌∷◌, ◌++◌, Option, Some, None, inl, inr, refl, sym, ap, ◌∙◌, subst, append_assoc, length}
+use Rattle.std.proofs.{Common.{length-append, arith}, lemmas.Grind.{flat_map-append}, lemmas.List.{append-nil}}
 use Rattle.std.specs.{Fmt.{decimal}, List.{flat_map}, Option.{option_map_or}}
 use Rattle.listed.specs.Lists.{In, here, there}
 use Rattle.listed.proofs.Lists.{In_append_cases, In_cases, In_none}

@@ -1,6 +1,6 @@
 -- The lines of a kernel are allowed, one behind the other, and what they tell.
-use Rattle.std.proofs.Common.{◌≡◌, ℕ, zero, suc, ◌+◌, ◌-◌, ◌<◌, Bool, true, false, List, [], ◌∷◌, ◌++◌, Option, Some, length, map, inl, inr, refl, sym, ap, ◌∙◌, subst, append_assoc, add-one, arith}
-use Rattle.std.proofs.lemmas.List.{append-nil}
+use Rattle.std.proofs.Common.{◌≡◌, ℕ, zero, suc, ◌+◌, ◌-◌, ◌<◌, Bool, true, false, List, [], ◌∷◌, ◌++◌, Option, Some, length, map, inl, inr, refl, sym, ap, ◌∙◌}
+use Rattle.std.proofs.{Common.{subst, append_assoc, add-one, arith}, lemmas.List.{append-nil}}
 use Rattle.std.specs.List.{flat_map}
 use Rattle.listed.specs.Lists.{Ascending, In, has, here, there}
 use Rattle.clause_pool.specs.Lists.{InOrder}

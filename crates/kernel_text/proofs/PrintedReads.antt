@@ -1,6 +1,6 @@
 -- The text of a kernel is read as that kernel.
-use Rattle.std.proofs.Common.{◌≡◌, ℕ, ◌<◌, Bool, List, [], ◌∷◌, Some, length, filter, inl, inr, refl, sym, ap, ap₂, ◌∙◌, subst, zero-add, eqb, eqb-true, ltb, true, false, arith}
-use Rattle.std.proofs.lemmas.Bool.{ltb-true}
+use Rattle.std.proofs.Common.{◌≡◌, ℕ, ◌<◌, Bool, List, [], ◌∷◌, Some, length, filter, inl, inr, refl, sym, ap, ap₂, ◌∙◌, subst, zero-add, eqb, eqb-true, ltb}
+use Rattle.std.proofs.{Common.{true, false, arith}, lemmas.Bool.{ltb-true}}
 use Rattle.std.specs.List.{flat_map}
 use Rattle.listed.proofs.{Lists.{In_flat_cases, In_has, has_In, In_map_cases, In_none, filter_cases, filter_from}, Orders.{ascending_filter, ascending_same}}
 use Rattle.row_book.specs.{Numbers.{numbers}, Repository.{Repository, clauses_of, conflicts_of}}

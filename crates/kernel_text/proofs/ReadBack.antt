@@ -1,7 +1,7 @@
 -- The text of an index's kernel is read as that kernel, and goals name in it the classes of the packages that they name in the
 -- index.
-use Rattle.std.proofs.Common.{◌≡◌, ℕ, zero, suc, ◌+◌, ◌<◌, ◌≤◌, Bool, true, false, not, ◌&&◌, eqb, eq-eqb, eqb-true, List, [], ◌∷◌, length, get_or, inl, inr, refl, sym, ap, ◌∙◌, arith}
-use Rattle.std.proofs.lemmas.Bool.{and_from, and_parts, both_ways, false_from_ne_true}
+use Rattle.std.proofs.Common.{◌≡◌, ℕ, zero, suc, ◌+◌, ◌<◌, ◌≤◌, Bool, true, false, not, ◌&&◌, eqb, eq-eqb, eqb-true, List, [], ◌∷◌, length, get_or, inl, inr}
+use Rattle.std.proofs.{Common.{refl, sym, ap, ◌∙◌, arith}, lemmas.Bool.{and_from, and_parts, both_ways, false_from_ne_true}}
 use Rattle.std.specs.List.{list_any}
 use Rattle.listed.proofs.{Bools.{same_bool}, Lists.{In_flat, In_cases, In_none, any_cases, any_from, filter_cases, filter_from, filter_same}}
 use Rattle.relation_fields.specs.declared.packages.PackageFacts.{PackageFacts}

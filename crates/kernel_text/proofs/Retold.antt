@@ -1,7 +1,8 @@
 -- The repository that the lines of a kernel tell.
-use Rattle.std.proofs.Common.{◌≡◌, ◌≢◌, ℕ, zero, suc, ◌+◌, ◌<◌, ◌≤◌, true, false, ◌&&◌, eqb, ltb, List, [], ◌∷◌, ◌++◌, ◌⊎◌, length, map, filter, inl, inr, refl, sym, ap, ap₂, ◌∙◌, subst, eq-eqb, zero-add, arith}
-use Rattle.std.proofs.{lemmas.Bool.{cases_lt, cases_eq, and_from, or_left, or_right, lt-ltb, both_ways}, lemmas.List.{append-nil, map-append, ext_get_or}}
-use Rattle.std.proofs.lemmas.List.Elements.{filter-append}
+use Rattle.std.proofs.Common.{◌≡◌, ◌≢◌, ℕ, zero, suc, ◌+◌, ◌<◌, ◌≤◌, true, ◌&&◌, eqb, ltb, List, [], ◌∷◌, ◌++◌, ◌⊎◌, length, map, filter, inl, inr, refl, sym}
+use Rattle.std.proofs.Common.{ap, ap₂, ◌∙◌, subst, eq-eqb, zero-add, arith}
+use Rattle.std.proofs.lemmas.Bool.{cases_lt, cases_eq, and_from, or_left, or_right, lt-ltb, both_ways, ne_eqb}
+use Rattle.std.proofs.{lemmas.List.{append-nil, map-append, ext_get_or}, lemmas.List.Elements.{filter-append}}
 use Rattle.std.specs.List.{flat_map}
 use Rattle.listed.proofs.Lists.{In_flat_cases, In_flat, In_has, has_In, In_map, In_map_cases, any_from, filter_from, filter_cases}
 use Rattle.listed.proofs.Orders.{ascending_same, ascending_filter}
@@ -22,12 +23,9 @@ own_clauses : (n : ℕ) (cs : List (List ℕ)) → clauses_of_class (map (clause
 own_clauses n [] = refl
 own_clauses n (c ∷ cs) = rw (eq-eqb n n refl) (ap (λ xs. c ∷ xs) (own_clauses n cs))
 
-pub eqb_other : (k n : ℕ) → k ≢ n → eqb k n ≡ false
-eqb_other k n ne = grind arith
-
 other_clauses : (k n : ℕ) (cs : List (List ℕ)) → k ≢ n → clauses_of_class (map (clause_entry k) cs) n ≡ []
 other_clauses k n [] ne = refl
-other_clauses k n (c ∷ cs) ne = rw (eqb_other k n ne) (other_clauses k n cs ne)
+other_clauses k n (c ∷ cs) ne = rw (ne_eqb k n ne) (other_clauses k n cs ne)
 
 no_clauses : (R : Repository) (j k n : ℕ) → n < k → clauses_of_class (flat_map (clause_entries R) (numbers j k)) n ≡ []
 unfolding numbers

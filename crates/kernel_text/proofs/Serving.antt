@@ -1,6 +1,6 @@
 -- Which sets of classes of a kernel serve goals, and which goals are known.
-use Rattle.std.proofs.Common.{◌≡◌, ℕ, ◌+◌, ◌<◌, ◌≤◌, Bool, true, false, ◌&&◌, eqb, eqb-true, eq-eqb, List, [], ◌∷◌, length, Some, None, inl, inr, refl, sym, subst, arith, map}
-use Rattle.std.proofs.lemmas.Bool.{and_from, and_parts, both_ways, cases_Bool}
+use Rattle.std.proofs.Common.{◌≡◌, ℕ, ◌+◌, ◌<◌, ◌≤◌, Bool, true, false, ◌&&◌, eqb, eqb-true, eq-eqb, List, [], ◌∷◌, length, Some, None, inl, inr, refl, sym}
+use Rattle.std.proofs.{Common.{subst, arith, map}, lemmas.Bool.{and_from, and_parts, both_ways, cases_Bool}}
 use Rattle.std.specs.List.{list_any, position_from}
 use Rattle.listed.proofs.Lists.{In_flat_cases, In_cases, In_map, In_map_cases, In_none, any_cases, any_from, filter_cases, filter_from}
 use Rattle.kernel_text.specs.{declared.member.Member.{Member}, Images.{image_of, is_named_by, is_unknown, names_in_class, unknown_goal}}

@@ -1,6 +1,6 @@
 -- Lines that are allowed one behind the other, up to an end line, are the blocks of classes and that end line.
-use Rattle.std.proofs.Common.{◌≡◌, ℕ, ◌+◌, ◌-◌, ◌<◌, true, false, List, [], ◌∷◌, ◌++◌, Option, Some, None, length, map, inl, inr, refl, sym, ap, ap₂, ◌∙◌, subst, append_assoc, add-one, arith}
-use Rattle.std.proofs.lemmas.Bool.{false≢true}
+use Rattle.std.proofs.Common.{◌≡◌, ℕ, ◌+◌, ◌-◌, ◌<◌, true, false, List, [], ◌∷◌, ◌++◌, Option, Some, None, length, map, inl, inr, refl, sym, ap, ap₂, ◌∙◌}
+use Rattle.std.proofs.{Common.{subst, append_assoc, add-one, arith}, lemmas.Bool.{false≢true}}
 use Rattle.clause_pool.specs.Lists.{Before}
 use Rattle.listed.specs.Lists.{In}
 use Rattle.listed.proofs.Lists.{In_cases, In_none}

@@ -1,6 +1,6 @@
 -- A kernel that is read is one that the format can write.
-use Rattle.std.proofs.Common.{◌≡◌, ℕ, zero, suc, ◌+◌, ◌<◌, ◌≤◌, false, List, [], ◌∷◌, ◌++◌, length, filter, eqb, get_or, inl, inr, sym, ap, ◌∙◌, subst, zero-add, arith}
-use Rattle.std.proofs.{lemmas.Bool.{cases_lt}, lemmas.List.{get_or_past}}
+use Rattle.std.proofs.Common.{◌≡◌, ℕ, zero, suc, ◌+◌, ◌<◌, ◌≤◌, false, List, [], ◌∷◌, ◌++◌, length, filter, eqb, get_or, inl, inr, sym, ap, ◌∙◌, subst}
+use Rattle.std.proofs.{Common.{zero-add, arith}, lemmas.Bool.{cases_lt}, lemmas.List.{get_or_past}}
 use Rattle.std.specs.List.{flat_map}
 use Rattle.clause_pool.specs.Lists.{InOrder}
 use Rattle.row_book.specs.{Numbers.{numbers}, Repository.{Repository, clauses_of}, Sound.{SoundClauses}}
@@ -10,9 +10,11 @@ use Rattle.listed.proofs.Lists.{In_none, In_cases, In_append_cases, In_map_cases
 use Rattle.kernel_text.specs.declared.member.Member.{Member}
 use Rattle.kernel_text.specs.{KernelLines.{KernelLine, HeadLine, ClassLine, MemberLine, HeldLine, NeedsLine, AgainstLine, EndLine}, Reader.{IsInRange, IsNew}}
 use Rattle.kernel_text.specs.KernelText.{AreSingle, IsWritable, members_of}
-use Rattle.kernel_text.specs.Reading.{Reading, ClassClause, IsFormat, IsNamed, clauses_of_class, is_same_member, member_of_line, number_limit, repository_of_reading, with_line}
+use Rattle.kernel_text.specs.Reading.{Reading, ClassClause, IsFormat, IsNamed, clauses_of_class, is_same_member, member_of_line, number_limit}
+use Rattle.kernel_text.specs.Reading.{repository_of_reading, with_line}
 use Rattle.kernel_text.proofs.{Allowed.{IsAllowed, IsClauseOf}, LineCuts.{AreAllowed, with_lines}}
-use Rattle.kernel_text.proofs.Blocks.{R_read, by_blocks, clause_entries_in, clauses_are, fit_at, held_ascending, held_bounds, held_in, keyed_members, members_in, none_held, picked, reading_of_blocks, rising, size_is}
+use Rattle.kernel_text.proofs.Blocks.{R_read, by_blocks, clause_entries_in, clauses_are, fit_at, held_ascending, held_bounds, held_in, keyed_members}
+use Rattle.kernel_text.proofs.Blocks.{members_in, none_held, picked, reading_of_blocks, rising, size_is}
 use Rattle.kernel_text.proofs.ClassLines.{ArePopulated, Block, FitBlocks, HeldInSecond, empty, over_blocks}
 
 -- each allowed member line is of a new member, so none names the package of an earlier one

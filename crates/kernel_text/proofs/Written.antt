@@ -1,6 +1,7 @@
 -- What the writer puts together: the packages of each class, the blocks of classes, and the whole text.
-use Rattle.std.proofs.Common.{◌≡◌, ℕ, zero, suc, ◌+◌, ◌<◌, ◌≤◌, Bool, true, false, eqb, ltb, List, [], ◌∷◌, ◌++◌, length, take, drop, map, filter, get_or, set, inl, inr, refl, sym, ap, ap₂, ◌∙◌, subst, zero-add, eq-eqb, append_assoc, arith}
-use Rattle.std.proofs.{Math.ListN.{length-set}, Math.Seq.{drop-cons}, lemmas.Bool.{cases_eq, cases_lt}, lemmas.Grind.{flat_map-append}}
+use Rattle.std.proofs.Common.{◌≡◌, ℕ, zero, suc, ◌+◌, ◌<◌, ◌≤◌, Bool, true, false, eqb, ltb, List, [], ◌∷◌, ◌++◌, length, take, drop, map, filter, get_or, set}
+use Rattle.std.proofs.{Common.{inl, inr, refl, sym, ap, ap₂, ◌∙◌, subst, zero-add, eq-eqb, append_assoc, arith}, Math.ListN.{length-set}, Math.Seq.{drop-cons}}
+use Rattle.std.proofs.{lemmas.Bool.{cases_eq, cases_lt}, lemmas.Grind.{flat_map-append}}
 use Rattle.std.proofs.{lemmas.List.{append-nil, flat_map_more, get_or_past, get_or-set_same, get_or-set_other, take_more}, lemmas.List.Elements.{filter-append}}
 use Rattle.std.proofs.lemmas.List.Folds.{flat_map-map}
 use Rattle.std.specs.List.{flat_map}

@@ -1,7 +1,9 @@
--- The lines that the words of a text may be of.
-use Rattle.std.specs.{Prelude.{ℕ, ◌==◌, ◌||◌, Bool, List, [], ◌∷◌, drop, get_or, map, if◌then◌else◌}, List.{onto_first}}
+-- The words of a line, and the lines of a kernel text that they may be of: one of each kind.
+use Rattle.std.specs.Prelude.{ℕ, ◌==◌, ◌||◌, Bool, List, [], ◌∷◌, drop, get_or, map, if◌then◌else◌}
+use Rattle.std.specs.List.{onto_first}
 use Rattle.deb_version.specs.Order.{number}
-use Rattle.kernel_text.specs.KernelLines.{KernelLine, HeadLine, ClassLine, MemberLine, HeldLine, NeedsLine, AgainstLine, EndLine}
+use Rattle.kernel_text.specs.KernelLines.{KernelLine, HeadLine, ClassLine, MemberLine, HeldLine}
+use Rattle.kernel_text.specs.KernelLines.{NeedsLine, AgainstLine, EndLine}
 
 -- the words of a line, each up to the space or the line feed after it
 abbrev pub ends_word : ℕ → Bool

@@ -1,10 +1,12 @@
 -- The classes of a stored kernel that goals name.
-use Rattle.std.specs.{Prelude.{◌≡◌, ⊤, ℕ, Bool, true, not, ◌&&◌, eqb, List, Option, Some, filter, slice_get}, List.{list_any, position_from}}
-use Rattle.std.specs.{Option.{option_map_or}, Ordering.{is_eq}, Str.{bytes_eq}}
+use Rattle.std.specs.Prelude.{◌≡◌, ⊤, ℕ, Bool, true, not, ◌&&◌, eqb, List, Option, Some, filter}
+use Rattle.std.specs.{Prelude.{slice_get}, List.{list_any, position_from}, Option.{option_map_or}}
+use Rattle.std.specs.{Ordering.{is_eq}, Str.{bytes_eq}}
 use Rattle.deb_version.specs.Order.{version_order}
 use Rattle.row_book.specs.Numbers.{numbers}
 use Rattle.repo_model.specs.declared.goals.Goal.{Goal}
-use Rattle.kernel_text.specs.{declared.images.ImageError.{ImageError}, declared.images.ImageError.TheVariants.{Unknown, Memory}}
+use Rattle.kernel_text.specs.declared.images.ImageError.{ImageError}
+use Rattle.kernel_text.specs.declared.images.ImageError.TheVariants.{Unknown, Memory}
 use Rattle.kernel_text.specs.declared.member.Member.{Member}
 
 -- the package has the goal's name, and a version that compares as equal if the goal has one

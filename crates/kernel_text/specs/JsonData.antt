@@ -3,9 +3,11 @@
 -- numbers by class.
 use Rattle.std.specs.Prelude.{ℕ, Bool, List, [], ◌∷◌, map, codes, Option, Some, None, if◌then◌else◌}
 use Rattle.relation_fields.specs.declared.packages.PackageFacts.{PackageFacts}
-use Rattle.row_book.specs.{Book.{listed_for}, Numbers.{numbers}, Flags.{flag}, Repository.{Repository, clauses_of}}
+use Rattle.row_book.specs.{Book.{listed_for}, Numbers.{numbers}, Flags.{flag}}
+use Rattle.row_book.specs.Repository.{Repository, clauses_of}
 use Rattle.repo_model.specs.Stanzas.{stanza_at}
-use Rattle.serde_json.specs.{Data.{Data, Members, array, boolean, member, no_members, number, object, put, string, unsigned}, View.{items_of}}
+use Rattle.serde_json.specs.Data.{Data, Members, array, boolean, member, no_members, number, object}
+use Rattle.serde_json.specs.{Data.{put, string, unsigned}, View.{items_of}}
 use Rattle.kernel_text.specs.KernelText.{format_of, greater_conflicts}
 
 abbrev pub number_data : ℕ → Data

@@ -1,10 +1,12 @@
 -- The JSON of a kernel: an object of the classes and the number of the format. Keys are in the
 -- order of their bytes, there is no white space, and a line feed follows. In format 2 each class
 -- says whether it is held.
-use Rattle.std.specs.{Prelude.{ℕ, Bool, true, false, eqb, List, [], ◌∷◌, ◌++◌, length, map, codes, Option, Some, None, if◌then◌else◌}, Fmt.{decimal}}
+use Rattle.std.specs.Prelude.{ℕ, Bool, true, false, eqb, List, [], ◌∷◌, ◌++◌, length, map, codes}
+use Rattle.std.specs.{Prelude.{Option, Some, None, if◌then◌else◌}, Fmt.{decimal}}
 use Rattle.row_book.specs.{Numbers.{numbers}, Repository.{Repository, clauses_of}}
 use Rattle.listed.specs.Lists.{has}
-use Rattle.kernel_text.specs.{declared.member.Member.{Member}, KernelText.{greater_conflicts, members_of}}
+use Rattle.kernel_text.specs.declared.member.Member.{Member}
+use Rattle.kernel_text.specs.KernelText.{greater_conflicts, members_of}
 
 -- a comma before each text
 abbrev pub behind_commas : List (List ℕ) → List ℕ

@@ -1,5 +1,6 @@
 -- The lines of a kernel text, formats 1 and 2, and the bytes of each kind of line.
-use Rattle.std.specs.{Prelude.{ℕ, ◌==◌, List, [], ◌∷◌, ◌++◌, codes, if◌then◌else◌}, Fmt.{decimal}, List.{flat_map, onto_first}}
+use Rattle.std.specs.{Prelude.{ℕ, ◌==◌, List, [], ◌∷◌, ◌++◌, codes, if◌then◌else◌}, Fmt.{decimal}}
+use Rattle.std.specs.List.{flat_map, onto_first}
 
 -- the text cut after each line feed, which stays with its line; what follows the last one is a line
 -- without one

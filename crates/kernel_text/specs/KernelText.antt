@@ -2,12 +2,15 @@
 -- class, ascending, and the end line, with the numbers of classes and members. A block has the
 -- class line, the members, that the class is held if it is, the clauses, and the conflicting
 -- classes with greater numbers.
-use Rattle.std.specs.{Prelude.{◌≡◌, ℕ, ◌<◌, Bool, true, false, eqb, ltb, List, [], ◌∷◌, ◌++◌, length, map, filter}, List.{flat_map}}
+use Rattle.std.specs.Prelude.{◌≡◌, ℕ, ◌<◌, Bool, true, false, eqb, ltb, List, [], ◌∷◌, ◌++◌, length}
+use Rattle.std.specs.{Prelude.{map, filter}, List.{flat_map}}
 use Rattle.listed.specs.Lists.{Ascending, In, has}
 use Rattle.clause_pool.specs.Lists.{InOrder}
-use Rattle.row_book.specs.{Numbers.{numbers}, Repository.{Repository, clauses_of, conflicts_of}, Sound.{SoundRepository}}
+use Rattle.row_book.specs.{Numbers.{numbers}, Repository.{Repository, clauses_of, conflicts_of}}
+use Rattle.row_book.specs.Sound.{SoundRepository}
 use Rattle.kernel_text.specs.declared.member.Member.{Member}
-use Rattle.kernel_text.specs.KernelLines.{KernelLine, HeadLine, ClassLine, MemberLine, HeldLine, NeedsLine, AgainstLine, EndLine, line_text}
+use Rattle.kernel_text.specs.KernelLines.{KernelLine, HeadLine, ClassLine, MemberLine, HeldLine}
+use Rattle.kernel_text.specs.KernelLines.{NeedsLine, AgainstLine, EndLine, line_text}
 use Rattle.kernel_text.specs.Reading.{number_limit, is_same_member, IsFormat, IsNamed}
 
 -- the members of a class

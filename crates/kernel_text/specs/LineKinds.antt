@@ -1,9 +1,11 @@
--- The lines of a kernel text with a clause, and those with a conflict, and how many there are of
--- each.
+-- Two kinds of lines of a kernel text, those with a clause and those with a conflict, and how many
+-- there are of each.
 use Rattle.std.specs.{Prelude.{◌≡◌, ℕ, Bool, true, false, List, length}, List.{count_by, sum_by}}
 use Rattle.row_book.specs.{Numbers.{numbers}, Repository.{Repository, clauses_of}}
-use Rattle.kernel_text.specs.KernelLines.{KernelLine, HeadLine, ClassLine, MemberLine, HeldLine, NeedsLine, AgainstLine, EndLine}
-use Rattle.kernel_text.specs.{KernelText.{greater_conflicts, kernel_lines}, declared.member.Member.{Member}}
+use Rattle.kernel_text.specs.KernelLines.{KernelLine, HeadLine, ClassLine, MemberLine, HeldLine}
+use Rattle.kernel_text.specs.KernelLines.{NeedsLine, AgainstLine, EndLine}
+use Rattle.kernel_text.specs.KernelText.{greater_conflicts, kernel_lines}
+use Rattle.kernel_text.specs.declared.member.Member.{Member}
 
 -- a line with a clause, and one with a conflict
 abbrev pub is_needs_line : KernelLine → Bool

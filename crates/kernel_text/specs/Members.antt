@@ -2,7 +2,8 @@
 use Rattle.std.specs.{Prelude.{ℕ, List, [], ◌∷◌}, List.{flat_map}}
 use Rattle.relation_fields.specs.declared.packages.PackageFacts.{PackageFacts}
 use Rattle.row_book.specs.Numbers.{numbers}
-use Rattle.package_register.specs.{Registers.{IsRegisterOf, IsRegisterOf-prop}, declared.register.Register.{Register}}
+use Rattle.package_register.specs.Registers.{IsRegisterOf, IsRegisterOf-prop}
+use Rattle.package_register.specs.declared.register.Register.{Register}
 use Rattle.kernel_text.specs.{declared.member.Member.{Member}, KernelText.{members_of}}
 
 -- a package as a member of a class

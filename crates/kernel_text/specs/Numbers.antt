@@ -1,6 +1,7 @@
 -- for the bodies of this crate alone
 -- The numbers of a line as they are read.
-use Rattle.std.specs.{Prelude.{◌≡◌, ℕ, ◌<◌, Bool, not, ◌&&◌, ◌||◌, ◌==◌, nat_le, List, length, slice_index, Option, Some, None}, Char.{is_ascii_digit}}
+use Rattle.std.specs.Prelude.{◌≡◌, ℕ, ◌<◌, Bool, not, ◌&&◌, ◌||◌, ◌==◌, nat_le, List, length}
+use Rattle.std.specs.{Prelude.{slice_index, Option, Some, None}, Char.{is_ascii_digit}}
 use Rattle.std.specs.{Fmt.{decimal}, List.{list_all}}
 use Rattle.kernel_text.specs.Reading.{number_limit}
 

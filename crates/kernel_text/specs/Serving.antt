@@ -1,6 +1,7 @@
 -- Which sets of classes of a kernel serve goals.
 use Rattle.std.specs.Prelude.{◌≡◌, ◌↔◌, true, ℕ, List, length, map}
-use Rattle.kernel_text.specs.{Images.{image_of, is_named_by}, KernelReads.{KernelContent}, KernelText.{IsWritable}, declared.member.Member.{Member}}
+use Rattle.kernel_text.specs.{Images.{image_of, is_named_by}, KernelReads.{KernelContent}}
+use Rattle.kernel_text.specs.{KernelText.{IsWritable}, declared.member.Member.{Member}}
 use Rattle.repo_model.specs.declared.goals.Goal.{Goal}
 use Rattle.listed.specs.Lists.{In}
 use Rattle.row_book.specs.{Repository.{Healthy}, Sets.{HitsAll, Is, NumSet}}

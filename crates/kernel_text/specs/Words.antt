@@ -1,10 +1,13 @@
 -- for the bodies of this crate alone
 -- The words of a line: its first, and what follows the space after it.
-use Rattle.std.specs.{Prelude.{◌≡◌, ℕ, ◌<◌, Bool, true, not, ◌==◌, List, [], ◌∷◌, ◌++◌, codes, Option, Some, None}, Fmt.{decimal}, List.{flat_map, list_all}}
+use Rattle.std.specs.Prelude.{◌≡◌, ℕ, ◌<◌, Bool, true, not, ◌==◌, List, [], ◌∷◌, ◌++◌, codes}
+use Rattle.std.specs.{Prelude.{Option, Some, None}, Fmt.{decimal}, List.{flat_map, list_all}}
 use Rattle.listed.specs.Lists.{In}
 use Rattle.kernel_text.specs.declared.content.LineContent.{LineContent}
-use Rattle.kernel_text.specs.declared.content.LineContent.TheVariants.{Head, Class, Member, Held, Needs, Against, End}
-use Rattle.kernel_text.specs.KernelLines.{KernelLine, HeadLine, ClassLine, MemberLine, HeldLine, NeedsLine, AgainstLine, EndLine, behind_space, line_text}
+use Rattle.kernel_text.specs.declared.content.LineContent.TheVariants.{Head, Class, Member, Held}
+use Rattle.kernel_text.specs.declared.content.LineContent.TheVariants.{Needs, Against, End}
+use Rattle.kernel_text.specs.KernelLines.{KernelLine, HeadLine, ClassLine, MemberLine, HeldLine}
+use Rattle.kernel_text.specs.KernelLines.{NeedsLine, AgainstLine, EndLine, behind_space, line_text}
 use Rattle.kernel_text.specs.Reading.{IsFormat, IsNamed, number_limit}
 
 -- after a word there is nothing, or a space and the rest

@@ -1,11 +1,14 @@
 -- for the bodies of this crate alone
 -- What the parts of the writer append to a text, and the packages of each class by their numbers.
-use Rattle.std.specs.{Prelude.{◌≡◌, ℕ, ◌<◌, Bool, eqb, List, ◌++◌, length, filter, slice_index}, List.{flat_map}}
+use Rattle.std.specs.Prelude.{◌≡◌, ℕ, ◌<◌, Bool, eqb, List, ◌++◌, length, filter, slice_index}
+use Rattle.std.specs.List.{flat_map}
 use Rattle.relation_fields.specs.declared.packages.PackageFacts.{PackageFacts}
-use Rattle.row_book.specs.{Book.{listed_for}, Numbers.{numbers}, Flags.{flag}, Repository.{Repository, clauses_of}}
+use Rattle.row_book.specs.{Book.{listed_for}, Numbers.{numbers}, Flags.{flag}}
+use Rattle.row_book.specs.Repository.{Repository, clauses_of}
 use Rattle.listed.specs.Lists.{In, has}
 use Rattle.repo_model.specs.Stanzas.{stanza_at}
-use Rattle.kernel_text.specs.{KernelLines.{KernelLine, ClassLine, MemberLine, NeedsLine, AgainstLine, line_text}, KernelText.{greater_conflicts, held_lines}}
+use Rattle.kernel_text.specs.KernelLines.{KernelLine, ClassLine, MemberLine, NeedsLine, AgainstLine}
+use Rattle.kernel_text.specs.{KernelLines.{line_text}, KernelText.{greater_conflicts, held_lines}}
 
 -- a line for each element
 abbrev pub lines_text : {A : Type 0} → (A → KernelLine) → List A → List ℕ

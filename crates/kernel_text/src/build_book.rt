@@ -1,10 +1,13 @@
 //! The book of the classes that were read.
-ghost use Rattle.std.specs.Prelude.{◌≡◌, ◌∷◌, ◌++◌, ◌<◌, ℕ, List, [], IfOk, OnOk, length, map, slice_set};
+ghost use Rattle.std.specs.Prelude.{◌≡◌, ◌∷◌, ◌++◌, ◌<◌, ℕ, List, [], IfOk, OnOk, length, map};
+ghost use Rattle.std.specs.Prelude.{slice_set};
 ghost use Rattle.clause_pool.specs.{Interned.{clauses_at, Kept, OfPool}, Lists.{InOrder}};
 ghost use Rattle.row_book.specs.Book.{AddsOnly, listed_for, repository_of, Sound};
 ghost use Rattle.listed.specs.Lists.{Ascending, In};
-ghost use Rattle.kernel_text.specs.{Booking.{AreRows, GainsClauses, GainsRows, HasIdsByClass, IsBookable}, Reading.{repository_of_reading, Reading}};
-ghost use Rattle.kernel_text.specs.{Reader.{entry_of, HoldsReading}, declared.reader.Clause.{Clause}};
+ghost use Rattle.kernel_text.specs.Booking.{AreRows, GainsClauses, GainsRows, HasIdsByClass};
+ghost use Rattle.kernel_text.specs.{Booking.{IsBookable}, Reading.{repository_of_reading, Reading}};
+ghost use Rattle.kernel_text.specs.Reader.{entry_of, HoldsReading};
+ghost use Rattle.kernel_text.specs.declared.reader.Clause.{Clause};
 
 use crate::reader::{Clause, Reader};
 use clause_pool::{ClauseId, Pool, RowId};

@@ -1,6 +1,7 @@
 //! The first line with a number that is not one of a class.
 ghost use Rattle.std.specs.{Prelude.{◌≡◌, ◌≤◌, IfOk, length}, List.{position_from}};
-ghost use Rattle.kernel_text.specs.{KernelLines.{lines_of}, StoredReading.{strays}, Strays.{strays_by}, Words.{line_of_content}};
+ghost use Rattle.kernel_text.specs.{KernelLines.{lines_of}, StoredReading.{strays}};
+ghost use Rattle.kernel_text.specs.{Strays.{strays_by}, Words.{line_of_content}};
 ghost use Rattle.repo_model.specs.Limits.{most_bytes};
 
 use crate::check_range::is_below;

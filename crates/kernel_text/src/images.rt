@@ -1,8 +1,9 @@
 //! The classes of a stored kernel that goals name.
 ghost use Rattle.std.specs.Prelude.{◌≡◌, ◌<◌, ◌↔◌, ℕ, None, IfOk, IfErr, length, map};
 ghost use Rattle.listed.specs.Lists.{Ascending, In};
-ghost use Rattle.kernel_text.specs.{declared.member.Member.{Member}, Images.{class_at, image_of, is_named_by, NamesTheUnknown, unknown_goal}};
-ghost use Rattle.kernel_text.specs.Members.{IsMemberRegister};
+ghost use Rattle.kernel_text.specs.declared.member.Member.{Member};
+ghost use Rattle.kernel_text.specs.Images.{class_at, image_of, is_named_by, NamesTheUnknown};
+ghost use Rattle.kernel_text.specs.{Images.{unknown_goal}, Members.{IsMemberRegister}};
 ghost use Rattle.package_register.specs.Numbers.{numbers_where};
 
 use crate::member::Member;

@@ -1,6 +1,8 @@
 //! Laws over the definitions that the contracts of kernel texts cite; these functions do nothing.
-ghost use Rattle.kernel_text.specs.Laws.{KernelsAreWritable, ReadIsWritten, RoundsGiveKernels, TextsAreJudged, TextsAreReadOnce, WrittenIsReadBack};
-ghost use Rattle.kernel_text.specs.{LineKinds.{LinesAreCounted}, Serving.{ImagesServe}, StoredReading.{LinesAreFound, TextsAreTold}};
+ghost use Rattle.kernel_text.specs.Laws.{KernelsAreWritable, ReadIsWritten, RoundsGiveKernels};
+ghost use Rattle.kernel_text.specs.Laws.{TextsAreJudged, TextsAreReadOnce, WrittenIsReadBack};
+ghost use Rattle.kernel_text.specs.{LineKinds.{LinesAreCounted}, Serving.{ImagesServe}};
+ghost use Rattle.kernel_text.specs.StoredReading.{LinesAreFound, TextsAreTold};
 
 /// A text is read as one format, one repository, one list of members and one list of held classes
 /// at most.

@@ -1,9 +1,11 @@
 //! The lines of a kernel text, which are appended to a text one by one.
-ghost use Rattle.std.specs.{Prelude.{◌≡◌, ◌++◌, ◌<◌, ℕ, ltb, OnOk, filter, length}, Fmt.{decimal}, List.{flat_map}};
+ghost use Rattle.std.specs.{Prelude.{◌≡◌, ◌++◌, ◌<◌, ℕ, ltb, OnOk, filter, length}, Fmt.{decimal}};
+ghost use Rattle.std.specs.List.{flat_map};
 ghost use Rattle.clause_pool.specs.Interned.{clauses_at, OfPool};
 ghost use Rattle.listed.specs.Lists.{In};
 ghost use Rattle.repo_model.specs.Stanzas.{stanza_at};
-ghost use Rattle.kernel_text.specs.KernelLines.{AgainstLine, behind_space, ClassLine, EndLine, HeadLine, HeldLine, line_text, NeedsLine};
+ghost use Rattle.kernel_text.specs.KernelLines.{AgainstLine, behind_space, ClassLine, EndLine};
+ghost use Rattle.kernel_text.specs.KernelLines.{HeadLine, HeldLine, line_text, NeedsLine};
 ghost use Rattle.kernel_text.specs.{KernelText.{held_lines}, Writing.{line_of_package, lines_text}};
 
 use clause_pool::{ClauseId, Pool};
@@ -12,7 +14,7 @@ use relation_fields::PackageFacts;
 use std::alloc::AllocError;
 
 // Appends a space and a number, in decimal digits.
-#[tactic(auto, using(std::proofs::Common::append_assoc))]
+#[tactic(auto, using(crate::proofs::append_assoc))]
 fn push_number(out: &mut Vec<u8>, number: u32) -> Result<(), AllocError>
     ensures { OnOk result (out.new.items ≡ out.old.items ++ behind_space number) }
 {
@@ -32,7 +34,7 @@ fn push_numbers(out: &mut Vec<u8>, numbers: &[u32]) -> Result<(), AllocError>
 }
 
 /// Appends the first line of the format.
-#[tactic(auto, using(std::proofs::Common::append_assoc), unfolding(crate::specs::KernelLines::line_text))]
+#[tactic(auto, using(crate::proofs::append_assoc), unfolding(crate::specs::KernelLines::line_text))]
 pub(crate) fn push_head(out: &mut Vec<u8>, format: u32) -> Result<(), AllocError>
     ensures { OnOk result (out.new.items ≡ out.old.items ++ line_text (HeadLine format)) }
 {
@@ -42,7 +44,7 @@ pub(crate) fn push_head(out: &mut Vec<u8>, format: u32) -> Result<(), AllocError
 }
 
 /// Appends the line that begins a class.
-#[tactic(auto, using(std::proofs::Common::append_assoc), unfolding(crate::specs::KernelLines::line_text))]
+#[tactic(auto, using(crate::proofs::append_assoc), unfolding(crate::specs::KernelLines::line_text))]
 pub(crate) fn push_class_line(out: &mut Vec<u8>, number: u32) -> Result<(), AllocError>
     ensures { OnOk result (out.new.items ≡ out.old.items ++ line_text (ClassLine number)) }
 {
@@ -68,7 +70,7 @@ pub(crate) fn push_member_lines(
 }
 
 // Appends the line of a member.
-#[tactic(auto, using(std::proofs::Common::append_assoc), unfolding(crate::specs::KernelLines::line_text))]
+#[tactic(auto, using(crate::proofs::append_assoc), unfolding(crate::specs::KernelLines::line_text))]
 fn push_member_line(out: &mut Vec<u8>, member: &PackageFacts) -> Result<(), AllocError>
     ensures { OnOk result (out.new.items
         ≡ out.old.items ++ line_text (line_of_package member.now)) }
@@ -109,7 +111,7 @@ pub(crate) fn push_needs_lines(
 }
 
 // Appends the line of a clause.
-#[tactic(auto, using(std::proofs::Common::append_assoc), unfolding(crate::specs::KernelLines::line_text))]
+#[tactic(auto, using(crate::proofs::append_assoc), unfolding(crate::specs::KernelLines::line_text))]
 fn push_needs_line(out: &mut Vec<u8>, clause: &[u32]) -> Result<(), AllocError>
     ensures { OnOk result (out.new.items ≡ out.old.items ++ line_text (NeedsLine clause.now)) }
 {
@@ -136,7 +138,7 @@ pub(crate) fn push_against_lines(
 }
 
 // Appends the line of a conflict.
-#[tactic(auto, using(std::proofs::Common::append_assoc), unfolding(crate::specs::KernelLines::line_text))]
+#[tactic(auto, using(crate::proofs::append_assoc), unfolding(crate::specs::KernelLines::line_text))]
 fn push_against_line(out: &mut Vec<u8>, class: u32) -> Result<(), AllocError>
     ensures { OnOk result (out.new.items ≡ out.old.items ++ line_text (AgainstLine class)) }
 {
@@ -146,7 +148,7 @@ fn push_against_line(out: &mut Vec<u8>, class: u32) -> Result<(), AllocError>
 }
 
 /// Appends the end line.
-#[tactic(auto, using(std::proofs::Common::append_assoc), unfolding(crate::specs::KernelLines::line_text))]
+#[tactic(auto, using(crate::proofs::append_assoc), unfolding(crate::specs::KernelLines::line_text))]
 pub(crate) fn push_end(out: &mut Vec<u8>, classes: u32, members: u32) -> Result<(), AllocError>
     ensures { OnOk result (out.new.items ≡ out.old.items ++ line_text (EndLine classes members)) }
 {

@@ -1,6 +1,8 @@
 //! Reading the lines of a kernel text.
 ghost use Rattle.std.specs.Prelude.{◌≡◌, ℕ, ◌≤◌, IfOk, IfErr, OnOk, length};
-ghost use Rattle.kernel_text.specs.{KernelFaults.{IsFault}, Reader.{HoldsReading, HoldsAll, HoldsKernel}, Reading.{empty_reading}};
+ghost use Rattle.kernel_text.specs.KernelFaults.{IsFault};
+ghost use Rattle.kernel_text.specs.Reader.{HoldsReading, HoldsAll, HoldsKernel};
+ghost use Rattle.kernel_text.specs.Reading.{empty_reading};
 ghost use Rattle.repo_model.specs.Limits.{most_bytes};
 
 use crate::check_range::is_in_range;

@@ -1,7 +1,9 @@
 //! Reading a line of a kernel text.
-ghost use Rattle.std.specs.{Prelude.{◌≡◌, ◌↔◌, true, false, List, ℕ, Some, None, codes, IfOk, IsTrue, MatchOption}, Option.{option_copied}};
+ghost use Rattle.std.specs.Prelude.{◌≡◌, ◌↔◌, true, false, List, ℕ, Some, None, codes, IfOk};
+ghost use Rattle.std.specs.{Prelude.{IsTrue, MatchOption}, Option.{option_copied}};
 ghost use Rattle.deb_version.specs.Grammar.{is_version};
-ghost use Rattle.kernel_text.specs.{Reading.{IsFormat}, Words.{IsCut, LineIsRead, NumbersRead, WordsAreRead}};
+ghost use Rattle.kernel_text.specs.Reading.{IsFormat};
+ghost use Rattle.kernel_text.specs.Words.{IsCut, LineIsRead, NumbersRead, WordsAreRead};
 
 use crate::content::LineContent;
 use crate::read_number::read_number;

@@ -1,9 +1,13 @@
 //! What is read of a text so far.
 ghost use Rattle.std.specs.Prelude.{◌≡◌, ◌<◌, ◌-◌, ℕ, true, IfOk};
 ghost use Rattle.listed.specs.Lists.{In};
-ghost use Rattle.kernel_text.specs.KernelLines.{AgainstLine, ClassLine, EndLine, HeadLine, HeldLine, MemberLine, NeedsLine};
-ghost use Rattle.kernel_text.specs.{Reader.{last_clause, Adds, Enters, HoldsReading, TakesLine}, StoredReading.{is_complete}, Members.{IsMemberRegister}};
-ghost use Rattle.kernel_text.specs.Reading.{empty_reading, IsFormat, IsNamed, may_add_clause, may_add_conflict, may_add_held, may_add_member, may_begin, number_limit, Reading};
+ghost use Rattle.kernel_text.specs.KernelLines.{AgainstLine, ClassLine, EndLine, HeadLine};
+ghost use Rattle.kernel_text.specs.KernelLines.{HeldLine, MemberLine, NeedsLine};
+ghost use Rattle.kernel_text.specs.Reader.{last_clause, Adds, Enters, HoldsReading, TakesLine};
+ghost use Rattle.kernel_text.specs.{StoredReading.{is_complete}, Members.{IsMemberRegister}};
+ghost use Rattle.kernel_text.specs.Reading.{empty_reading, IsFormat, IsNamed, may_add_clause};
+ghost use Rattle.kernel_text.specs.Reading.{may_add_conflict, may_add_held, may_add_member};
+ghost use Rattle.kernel_text.specs.Reading.{may_begin, number_limit, Reading};
 ghost use Rattle.kernel_text.specs.Words.{IsWellFormed, line_of_content};
 
 use crate::clause_shape::is_ascending;

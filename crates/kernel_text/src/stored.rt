@@ -3,8 +3,10 @@ ghost use Rattle.std.specs.Prelude.{◌≡◌, ◌≤◌, ◌<◌, IfOk, IfErr, 
 ghost use Rattle.clause_pool.specs.Interned.{Kept};
 ghost use Rattle.row_book.specs.Book.{repository_of, AddsOnly, Sound};
 ghost use Rattle.listed.specs.Lists.{In};
-ghost use Rattle.kernel_text.specs.{declared.fault.KernelFault.TheVariants.{Memory}, declared.member.Member.{Member}, KernelFaults.{IsFault}};
-ghost use Rattle.kernel_text.specs.{KernelReads.{KernelReads}, Members.{IsMemberRegister, IsMemberRegister-prop}};
+ghost use Rattle.kernel_text.specs.declared.fault.KernelFault.TheVariants.{Memory};
+ghost use Rattle.kernel_text.specs.{declared.member.Member.{Member}, KernelFaults.{IsFault}};
+ghost use Rattle.kernel_text.specs.KernelReads.{KernelReads};
+ghost use Rattle.kernel_text.specs.Members.{IsMemberRegister, IsMemberRegister-prop};
 ghost use Rattle.repo_model.specs.Limits.{most_bytes};
 
 use crate::build_book::book_of;

@@ -1,8 +1,10 @@
 //! Writing the text of a kernel.
-ghost use Rattle.std.specs.{Prelude.{◌≡◌, ◌++◌, ◌≤◌, ◌<◌, ℕ, List, IfOk, OnOk, length}, List.{flat_map}};
+ghost use Rattle.std.specs.Prelude.{◌≡◌, ◌++◌, ◌≤◌, ◌<◌, ℕ, List, IfOk, OnOk, length};
+ghost use Rattle.std.specs.List.{flat_map};
 ghost use Rattle.row_book.specs.{Book.{repository_of, Sound}, Numbers.{numbers}, Flags.{flag}};
 ghost use Rattle.listed.specs.Lists.{In};
-ghost use Rattle.kernel_text.specs.{KernelText.{format_of, kernel_text}, Members.{kernel_members}, Writing.{block_text, NumbersPackages, TellHeld}};
+ghost use Rattle.kernel_text.specs.{KernelText.{format_of, kernel_text}, Members.{kernel_members}};
+ghost use Rattle.kernel_text.specs.Writing.{block_text, NumbersPackages, TellHeld};
 
 use crate::classify::packages_by_class;
 use crate::holding::{format_of, held_flags};

@@ -1,5 +1,6 @@
 //! Writing a kernel as JSON.
-ghost use Rattle.std.specs.{Prelude.{◌≡◌, ◌++◌, ◌<◌, ℕ, ltb, codes, IfOk, OnOk, [], filter, length, map}, Str.{IsAscii}};
+ghost use Rattle.std.specs.Prelude.{◌≡◌, ◌++◌, ◌<◌, ℕ, ltb, codes, IfOk, OnOk, [], filter, length};
+ghost use Rattle.std.specs.{Prelude.{map}, Str.{IsAscii}};
 ghost use Rattle.clause_pool.specs.Interned.{clauses_at, OfPool};
 ghost use Rattle.relation_fields.specs.declared.packages.PackageFacts.{PackageFacts};
 ghost use Rattle.repo_model.specs.{Facts.{AreNamedPackages}, Stanzas.{stanza_at}};
@@ -7,8 +8,11 @@ ghost use Rattle.row_book.specs.Book.{repository_of, Sound};
 ghost use Rattle.listed.specs.Lists.{In};
 ghost use Rattle.serde_json.specs.Data.{string, put as with_member};
 ghost use Rattle.serde_json.specs.{View.{view, members_view}, Written.{compact_text}};
-ghost use Rattle.kernel_text.specs.JsonData.{clauses_data, data_of_class, kernel_data, mark_of_class, number_data, numbers_data, package_data, packages_data, with_told};
-ghost use Rattle.kernel_text.specs.{KernelJson.{kernel_json}, KernelText.{format_of}, Members.{kernel_members}, Writing.{NumbersPackages}};
+ghost use Rattle.kernel_text.specs.JsonData.{clauses_data, data_of_class, kernel_data};
+ghost use Rattle.kernel_text.specs.JsonData.{mark_of_class, number_data, numbers_data};
+ghost use Rattle.kernel_text.specs.JsonData.{package_data, packages_data, with_told};
+ghost use Rattle.kernel_text.specs.{KernelJson.{kernel_json}, KernelText.{format_of}};
+ghost use Rattle.kernel_text.specs.{Members.{kernel_members}, Writing.{NumbersPackages}};
 
 use crate::classify::packages_by_class;
 use crate::holding::{format_of, held_flags};

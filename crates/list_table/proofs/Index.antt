@@ -1,6 +1,7 @@
 -- Walks over the places of an index.
-use Rattle.std.proofs.Common.{◌≡◌, ◌≢◌, ℕ, zero, suc, ◌<◌, ◌≤◌, ◌-◌, ◌+◌, ◌*◌, List, [], ◌∷◌, ◌++◌, map, length, take, get_or, inl, inr, refl, sym, ◌∙◌, ap, ap₂, subst, arith, length-append, set, get_or-set_other, get_or-set_same}
-use Rattle.std.proofs.{lemmas.Nat.{and_le_r}, lemmas.Bool.{cases_lt, cases_eq}, lemmas.List.{length-map, get_or-map, get_or_append_left, get_or_push}}
+use Rattle.std.proofs.Common.{◌≡◌, ◌≢◌, ℕ, zero, suc, ◌<◌, ◌≤◌, ◌-◌, ◌+◌, ◌*◌, List, [], ◌∷◌, ◌++◌, map, length, take, get_or, inl, inr, refl, sym, ◌∙◌, ap}
+use Rattle.std.proofs.{Common.{ap₂, subst, arith, length-append, set, get_or-set_other, get_or-set_same}, lemmas.Nat.{and_le_r}}
+use Rattle.std.proofs.{lemmas.Bool.{cases_lt, cases_eq}, lemmas.List.{length-map, get_or-map, get_or_append_left, get_or_push}}
 use Rattle.std.proofs.{lemmas.List.Sums.{sum_by-set, sum_by-cons, sum_by_more}, Math.ListN.{length-set}, Math.Nat.{pow-suc}}
 use Rattle.std.specs.Int.Bits.{bit_and}
 use Rattle.list_table.specs.Index.{home, place_at, one_if_zero, is_free, free, Reaches, NoneFreeBefore, IsFirstFree, IsFoundFrom, Puts, IsIndex, IsSize}

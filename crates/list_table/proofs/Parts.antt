@@ -1,6 +1,6 @@
 -- Parts of a list, and what is left of them when the list grows.
-use Rattle.std.proofs.Common.{◌≡◌, ℕ, zero, suc, ◌<◌, ◌≤◌, ◌-◌, ◌+◌, List, [], ◌∷◌, ◌++◌, length, get_or, take, drop, refl, ◌∙◌, ap, ap₂, arith, length-append, length-drop}
-use Rattle.std.proofs.{lemmas.List.{take-append-le, drop-append-le, map-append, get_or-map, take_all}, Math.Seq.{drop-append_seam}}
+use Rattle.std.proofs.Common.{◌≡◌, ℕ, zero, suc, ◌<◌, ◌≤◌, ◌-◌, ◌+◌, List, [], ◌∷◌, ◌++◌, length, get_or, take, drop, refl, ◌∙◌, ap, ap₂, arith, length-append}
+use Rattle.std.proofs.{Common.{length-drop}, lemmas.List.{take-append-le, drop-append-le, map-append, get_or-map, take_all}, Math.Seq.{drop-append_seam}}
 use Rattle.list_table.specs.Parts.{part, parts, SpansFit}
 
 pub Within_at : (n : ℕ) (spans : List (ℕ × ℕ)) (i : ℕ) (d : ℕ × ℕ) → SpansFit n spans → i < length spans → ((get_or spans i d).0 ≤ (get_or spans i d).1) × ((get_or spans i d).1 ≤ n)

@@ -1,5 +1,6 @@
 -- Hashes of lists.
-use Rattle.std.specs.{Prelude.{ℕ, ◌*◌, ◌/◌, ◌%◌, ◌^◌, List, bit_xor}, List.{fold}, Hash.FoldHasher.{initial, write, finish}}
+use Rattle.std.specs.{Prelude.{ℕ, ◌*◌, ◌/◌, ◌%◌, ◌^◌, List, bit_xor}, List.{fold}}
+use Rattle.std.specs.Hash.FoldHasher.{initial, write, finish}
 
 -- the hash of numbers followed by one more number
 unfoldable pub hash_with : ℕ → ℕ → ℕ

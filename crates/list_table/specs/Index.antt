@@ -1,6 +1,7 @@
 -- An index by linear probing: a vector of places. The number of an entry is found by a walk that
 -- begins at the place given by its hash.
-use Rattle.std.specs.{Prelude.{◌≡◌, ℕ, ◌<◌, ◌≤◌, ◌+◌, ◌-◌, ◌*◌, ◌^◌, ◌⊎◌, List, length, slice_index_or, set, bit_and}, List.{sum_by}}
+use Rattle.std.specs.Prelude.{◌≡◌, ℕ, ◌<◌, ◌≤◌, ◌+◌, ◌-◌, ◌*◌, ◌^◌, ◌⊎◌, List, length}
+use Rattle.std.specs.{Prelude.{slice_index_or, set, bit_and}, List.{sum_by}}
 use Rattle.std.proofs.Common.{zero, suc}
 
 -- the place at which the walk of a hash begins, in an index of this size

@@ -3,8 +3,10 @@
 //! It is linear probing (Knuth, The Art of Computer Programming, vol. 3, 6.4). A list is hashed
 //! once: the index keeps the hashes, and grows by them. The hash is fixed, so lists made to collide
 //! are found slowly, but never wrongly.
-ghost use Rattle.std.specs.Prelude.{◌≡◌, ℕ, ◌<◌, ◌+◌, ◌^◌, ◌∷◌, ◌++◌, ◌*◌, ◌≤◌, [], List, length, map, vec_len, IfOk, OnOk, OnErr, IfSome, IfNone};
-ghost use Rattle.list_table.specs.{Index.{home, free, IsFirstFree, IsIndex, IsSize, IsTable, Puts}, Lists.{StandsAt}};
+ghost use Rattle.std.specs.Prelude.{◌≡◌, ℕ, ◌<◌, ◌+◌, ◌^◌, ◌∷◌, ◌++◌, ◌*◌, ◌≤◌, [], List, length};
+ghost use Rattle.std.specs.Prelude.{map, vec_len, IfOk, OnOk, OnErr, IfSome, IfNone};
+ghost use Rattle.list_table.specs.Index.{home, free, IsFirstFree, IsIndex, IsSize, IsTable, Puts};
+ghost use Rattle.list_table.specs.Lists.{StandsAt};
 
 use crate::item::Item;
 use crate::spans::Spans;

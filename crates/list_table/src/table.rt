@@ -1,5 +1,6 @@
 //! Lists that are each kept once, found by their items.
-ghost use Rattle.std.specs.Prelude.{◌≡◌, ℕ, ◌∷◌, ◌++◌, [], ◌<◌, length, slice_index_or, IfOk, OnErr, IfSome, IfNone};
+ghost use Rattle.std.specs.Prelude.{◌≡◌, ℕ, ◌∷◌, ◌++◌, [], ◌<◌, length, slice_index_or, IfOk};
+ghost use Rattle.std.specs.Prelude.{OnErr, IfSome, IfNone};
 ghost use Rattle.list_table.specs.Lists.{StandsAt};
 
 use crate::hash_index::{Place, find_in, make_room, put_in};

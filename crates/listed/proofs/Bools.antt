@@ -1,6 +1,6 @@
 -- Tests, options and results.
 use Rattle.std.proofs.Common.{◌≡◌, ℕ, ◌≤◌, Bool, true, false, ◌||◌, cond, Option, Some, None, ◌⊎◌, inl, inr, refl, sym, arith}
-use Rattle.std.specs.Prelude.{Result, Ok, Err, OnErr}
+use Rattle.std.specs.{Prelude.{Result, Ok, Err, OnErr, OnOk}, Option.{option_map}}
 
 -- tests that pass together are equal
 pub same_bool : (a b : Bool) → (a ≡ true → b ≡ true) → (b ≡ true → a ≡ true) → a ≡ b
@@ -23,7 +23,15 @@ pub cases_Option : {X : Type 0} (o : Option X) → (o ≡ None) ⊎ ((x : X) × 
 cases_Option None = inl refl
 cases_Option (Some x) = inr (x, refl)
 
--- what is said of a refusal, where it is true of every result
+pub map_none : {A B : Type 0} (f : A → B) (o : Option A) → option_map f o ≡ None → o ≡ None
+map_none f None h = refl
+map_none f (Some x) h = absurd (let never : ⊥ = cc in never)
+
+-- what is said of a refusal, or of an answer, and is true of every result
 pub on_err : {A E : Type 0} (P : Type 0) (r : Result A E) → P → OnErr r P
 on_err P (Ok x) p = tt
 on_err P (Err e) p = p
+
+pub on_ok : {A E : Type 0} {P : Type 0} (r : Result A E) → P → OnOk r P
+on_ok (Ok x) p = p
+on_ok (Err e) p = tt

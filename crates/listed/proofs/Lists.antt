@@ -1,5 +1,6 @@
 -- Elements of lists, what tests of all and of some of them say, and lists made of lists.
-use Rattle.std.proofs.Common.{◌≡◌, ℕ, zero, suc, ◌<◌, ◌≤◌, ◌-◌, Bool, true, false, eqb, cond, List, [], ◌∷◌, ◌++◌, ◌⊎◌, inl, inr, refl, sym, ◌∙◌, ap, subst, eq-eqb, eqb-true, arith, filter, map, ◌&&◌, ap₂, Some, None, length, get_or, take, drop, zero-le}
+use Rattle.std.proofs.Common.{◌≡◌, ℕ, zero, suc, ◌<◌, ◌≤◌, ◌-◌, Bool, true, false, eqb, cond, List, [], ◌∷◌, ◌++◌, ◌⊎◌, inl, inr, refl, sym, ◌∙◌, ap, subst}
+use Rattle.std.proofs.Common.{eq-eqb, eqb-true, arith, filter, map, ◌&&◌, ap₂, Some, None, length, get_or, take, drop, zero-le}
 use Rattle.std.proofs.lemmas.Bool.{or_cases, or_left, or_right, or_from, and_parts, and_from, both_ways, cases_Bool, false≢true, false_from_ne_true}
 use Rattle.std.proofs.{lemmas.Grind.{common_steps}, lemmas.List.{length-drop, take_all}, lemmas.Slice.Eq.{bytes_eq-Decides}}
 use Rattle.std.specs.{List.{flat_map, list_all, list_any, find, slice_get, position_or_len, Contains}, Prelude.{bytes_eq, nat_lt}}
@@ -163,6 +164,10 @@ In_append_cases (y ∷ xs) ys x i =
       | inr j ↦ elim (In_append_cases xs ys x j) [ inl l ↦ inl (there l) | inr r ↦ inr r ]
     ]
 
+pub in_push : {A : Type 0} (xs : List A) (x y : A) → In y (xs ++ x ∷ []) → In y xs ⊎ (y ≡ x)
+in_push xs x y i =
+    elim (In_append_cases xs (x ∷ []) y i) [ inl a ↦ inl a | inr b ↦ elim (In_cases b) [ inl e ↦ inr e | inr j ↦ absurd (In_none j) ] ]
+
 pub In_append_left : {A : Type 0} (xs ys : List A) (x : A) → In x xs → In x (xs ++ ys)
 In_append_left [] ys x i = absurd (In_none i)
 In_append_left (y ∷ xs) ys x i =
@@ -191,6 +196,14 @@ pub In_map_cases : {A B : Type 0} (f : A → B) (xs : List A) (y : B) → In y (
 In_map_cases f [] y i = absurd (In_none i)
 In_map_cases f (x ∷ xs) y i =
     elim (In_cases i) [ inl e ↦ (x, here, e) | inr j ↦ let w : (z : _) × In z xs × (y ≡ f z) = In_map_cases f xs y j in (w.0, there w.1, w.2) ]
+
+pub map_alike : {A B : Type 0} (f g : A → B) (xs : List A) → ((x : A) → In x xs → f x ≡ g x) → map f xs ≡ map g xs
+map_alike f g [] e = refl
+map_alike f g (x ∷ xs) e = ap₂ (λ y ys. y ∷ ys) (e x here) (map_alike f g xs (λ y i. e y (there i)))
+
+pub map_own : {A : Type 0} (f : A → A) (xs : List A) → ((x : A) → In x xs → f x ≡ x) → map f xs ≡ xs
+map_own f [] e = refl
+map_own f (x ∷ xs) e = ap₂ (λ y ys. y ∷ ys) (e x here) (map_own f xs (λ y i. e y (there i)))
 
 pub In_flat : {X A : Type 0} (f : X → List A) (xs : List X) (x : X) (y : A) → In x xs → In y (f x) → In y (flat_map f xs)
 In_flat f [] x y i j = absurd (In_none i)

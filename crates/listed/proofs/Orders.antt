@@ -1,6 +1,6 @@
 -- Ascending lists of numbers: their parts, how they are made, and searches in them.
-use Rattle.std.proofs.Common.{◌≡◌, ℕ, zero, suc, ◌<◌, ◌≤◌, ◌↔◌, Bool, true, false, eqb, cond, List, [], ◌∷◌, ◌++◌, inl, inr, refl, sym, ◌∙◌, ap, subst, arith, filter, length, get_or, drop}
-use Rattle.std.proofs.lemmas.List.Kept.{AllPairs-from_increasing, Contains-dedup_nat, Contains-from_dedup}
+use Rattle.std.proofs.Common.{◌≡◌, ℕ, zero, suc, ◌<◌, ◌≤◌, ◌↔◌, Bool, true, false, eqb, cond, List, [], ◌∷◌, ◌++◌, inl, inr, refl, sym, ◌∙◌, ap, subst, arith}
+use Rattle.std.proofs.{Common.{filter, length, get_or, drop}, lemmas.List.Kept.{AllPairs-from_increasing, Contains-dedup_nat, Contains-from_dedup}}
 use Rattle.std.proofs.{lemmas.List.Sorted.{searched, Contains-permutation, IsPermutation-sym}, lemmas.Map.Keys.{IsStrictlyIncreasing-dedup}}
 use Rattle.std.specs.{Prelude.{Result, Ok, Err}, List.{dedup, AllPairs}, List.Sorted.{IsBinarySearchResult, IsNonDecreasing, IsPermutation, IsSorted}}
 use Rattle.std.specs.{Ordering.{nat_cmp}, Result.{is_ok}}

@@ -1,5 +1,6 @@
 -- White space at the ends of texts.
-use Rattle.std.specs.{Prelude.{ℕ, ◌-◌, Bool, ◌||◌, ◌==◌, List, length, take, drop}, List.{prefix_len, suffix_len}}
+use Rattle.std.specs.Prelude.{ℕ, ◌-◌, Bool, ◌||◌, ◌==◌, List, length, take, drop}
+use Rattle.std.specs.List.{prefix_len, suffix_len}
 
 -- a space, a tab or a line feed
 abbrev pub is_white_byte : ℕ → Bool

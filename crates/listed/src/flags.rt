@@ -1,5 +1,6 @@
 //! Flags and the numbers of those that are up.
-ghost use Rattle.std.specs.{Prelude.{◌≡◌, ◌<◌, false, filter, length, slice_index_or, IfOk}, List.{range_with_len}};
+ghost use Rattle.std.specs.Prelude.{◌≡◌, ◌<◌, false, filter, length, slice_index_or, IfOk};
+ghost use Rattle.std.specs.List.{range_with_len};
 
 use crate::list::Listed;
 use std::alloc::{AllocError, Global};

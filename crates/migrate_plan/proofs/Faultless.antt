@@ -1,8 +1,8 @@
 -- Stanzas that are those of an index without a fault: they are few, none has a fault of its own, no two are of the same
 -- package, and those that have an architecture have the same.
-use Rattle.std.proofs.Common.{◌≡◌, ℕ, ◌+◌, ◌≤◌, Bool, true, false, List, [], ◌∷◌, ◌++◌, length, take, map, Option, Some, None, Result, Ok, Err, refl, sym, ap, ◌∙◌, subst, ◌⊎◌, inl, inr, arith, length-append, append_assoc}
-use Rattle.std.proofs.{Math.Seq.{take-append_seam}, lemmas.List.{append-nil, length-map, map-append}, lemmas.Bool.Decides.{nat_tests}}
-use Rattle.std.proofs.lemmas.Slice.Eq.{bytes_eq-Decides}
+use Rattle.std.proofs.Common.{◌≡◌, ℕ, ◌+◌, ◌≤◌, Bool, true, false, List, [], ◌∷◌, ◌++◌, length, take, map, Option, Some, None, Result, Ok, Err, refl, sym, ap}
+use Rattle.std.proofs.{Common.{◌∙◌, subst, ◌⊎◌, inl, inr, arith, length-append, append_assoc}, Math.Seq.{take-append_seam}}
+use Rattle.std.proofs.{lemmas.List.{append-nil, length-map, map-append}, lemmas.Bool.Decides.{nat_tests}, lemmas.Slice.Eq.{bytes_eq-Decides}}
 use Rattle.std.specs.{Prelude.{nat_le, find, ◌||◌, if◌then◌else◌}, Option.{option_and_then, option_map, option_or}, Str.{bytes_eq}}
 use Rattle.stanza_reader.specs.{Stanzas.{readings}, declared.stanza.FieldKind.TheVariants.{Architecture}, declared.stanza.RawField.{RawField}}
 use Rattle.stanza_reader.specs.{declared.stanza.RawStanza.{RawStanza}, declared.fault.StanzaFault.{StanzaFault}}
@@ -10,8 +10,9 @@ use Rattle.relation_fields.specs.declared.packages.PackageFacts.{PackageFacts}
 use Rattle.listed.specs.Lists.{In, here, there}
 use Rattle.listed.proofs.Lists.{In_append_cases, In_append_left, In_cases, In_map, In_map_cases, In_none, find_none, find_not}
 use Rattle.repo_model.specs.{Facts.{architecture_of, facts_of, is_all, is_same_package}, Fields.{field_of}}
-use Rattle.repo_model.specs.FirstFault.{duplicate_fault, fault_behind, faults_from, first_fault, first_present, home_of, is_at_home, mixed_fault, own_fault, reading_fault, stanza_fault, stanzas_in, stanzas_of}
-use Rattle.repo_model.specs.{declared.fault.IndexFault.{IndexFault}, declared.fault.IndexFault.TheVariants.{Duplicate, Mixed, TooMany}, Limits.{most_packages}}
+use Rattle.repo_model.specs.FirstFault.{duplicate_fault, fault_behind, faults_from, first_fault, first_present, home_of, is_at_home, mixed_fault, own_fault}
+use Rattle.repo_model.specs.{FirstFault.{reading_fault, stanza_fault, stanzas_in, stanzas_of}, declared.fault.IndexFault.{IndexFault}}
+use Rattle.repo_model.specs.{declared.fault.IndexFault.TheVariants.{Duplicate, Mixed, TooMany}, Limits.{most_packages}}
 use Rattle.repo_model.proofs.{Refusing.{none_behind}, WellFormed.{none_of}, Steps.{home_of-push, stanzas_in-ok}}
 use Rattle.migrate_plan.proofs.Shifted.{ok_of}
 

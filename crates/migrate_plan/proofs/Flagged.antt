@@ -1,9 +1,10 @@
 -- Flags that are raised, number by number and name by name.
-use Rattle.std.proofs.Common.{◌≡◌, ℕ, suc, ◌+◌, ◌<◌, ◌≤◌, Bool, true, false, cond, eqb, eq-eqb, List, [], ◌∷◌, ◌++◌, length, get_or, set, take, map, replicate, inl, inr, refl, sym, ap, ◌∙◌, subst, arith}
-use Rattle.std.proofs.{Math.Bool.{or-false}, Math.ListN.{length-set}, lemmas.Bool.{cases_eq, or_right}}
+use Rattle.std.proofs.Common.{◌≡◌, ℕ, suc, ◌+◌, ◌<◌, ◌≤◌, Bool, true, false, cond, eqb, eq-eqb, List, [], ◌∷◌, ◌++◌, length, get_or, set, take, map, replicate}
+use Rattle.std.proofs.{Common.{inl, inr, refl, sym, ap, ◌∙◌, subst, arith}, Math.Bool.{or-false}, Math.ListN.{length-set}}
+use Rattle.std.proofs.lemmas.Bool.{cases_eq, or_right, ne_eqb}
 use Rattle.std.proofs.lemmas.List.{ext_get_or, get_or-map, get_or-set_other, get_or-set_same, length-map, take_all, take_more}
 use Rattle.std.proofs.{lemmas.List.Folds.{list_any-append}, lemmas.Slice.Eq.{bytes_eq-Decides}}
-use Rattle.std.specs.{Prelude.{◌≢◌, ◌||◌, not, filter}, Str.{bytes_eq}}
+use Rattle.std.specs.{Prelude.{◌||◌, not, filter}, Str.{bytes_eq}}
 use Rattle.listed.specs.Lists.{In, has}
 use Rattle.listed.proofs.{Bools.{same_bool}, Lists.{In_has, has_In}}
 use Rattle.package_register.specs.Numbers.{numbers_where}
@@ -17,9 +18,6 @@ use Rattle.migrate_plan.proofs.Taken.{taken_more}
 -- no number, and one number more
 pub raised_none : (flags : List Bool) → Raises flags [] flags
 raised_none flags = record { count = refl; each = λ n l. sym (or-false (flag flags n)) }
-
-eqb_other : (k n : ℕ) → k ≢ n → eqb k n ≡ false
-eqb_other k n ne = grind arith
 
 has_more : (numbers : List ℕ) (i k n : ℕ) → i < length numbers → k ≡ get_or numbers i 0 → has (take (i + 1) numbers) n ≡ (has (take i numbers) n || eqb n k)
 has_more numbers i k n l is =
@@ -36,7 +34,7 @@ raised_more old flags new numbers i k l is made so_far = record {
             (get_or-set_same flags k true false (let count : length flags ≡ length old = so_far.count in omega (arith, count, e, inside))
             ∙ sym (or_right (flag old k) (has (take (i + 1) numbers) k) (has_more numbers i k k l is ∙ or_right (has (take i numbers) k) (eqb k k) (eq-eqb k k refl))))
         | inr ne ↦ get_or-set_other flags k n true false ne ∙ so_far.each n inside
-            ∙ ap (λ b. flag old n || b) (sym (has_more numbers i k n l is ∙ ap (λ b. has (take i numbers) n || b) (eqb_other n k ne) ∙ or-false (has (take i numbers) n)))
+            ∙ ap (λ b. flag old n || b) (sym (has_more numbers i k n l is ∙ ap (λ b. has (take i numbers) n || b) (ne_eqb n k ne) ∙ or-false (has (take i numbers) n)))
       ];
 }
 

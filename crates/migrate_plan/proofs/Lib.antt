@@ -4,7 +4,7 @@ pub mod Faultless
 pub mod Joined
 pub mod Mixed
 pub mod MixedFacts
-pub mod WholeMixes
+pub mod BothMixes
 pub mod Parted
 pub mod AnyDependent
 pub mod OwnHome
@@ -19,4 +19,4 @@ pub mod Named
 pub mod Taken
 pub mod Flagged
 mod Passing
-mod Carrying
+mod Reusing

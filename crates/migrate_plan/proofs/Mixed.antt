@@ -1,6 +1,7 @@
 -- Every mix of names that differ is an index without a fault.
-use Rattle.std.proofs.Common.{◌≡◌, ℕ, ◌+◌, ◌≤◌, Bool, true, false, cond, List, [], ◌∷◌, ◌++◌, length, map, Option, Some, None, refl, sym, ap, ◌∙◌, subst, inl, inr, arith, length-append}
-use Rattle.std.proofs.{lemmas.Bool.{false≢true}, lemmas.List.{append-nil, length-map, map-append}, lemmas.Slice.Eq.{bytes_eq-Decides}}
+use Rattle.std.proofs.Common.{◌≡◌, ℕ, ◌+◌, ◌≤◌, Bool, true, false, cond, List, [], ◌∷◌, ◌++◌, length, map, Option, Some, None, refl, sym, ap, ◌∙◌, subst, inl}
+use Rattle.std.proofs.{Common.{inr, arith, length-append}, lemmas.Bool.{false≢true}, lemmas.List.{append-nil, length-map, map-append}}
+use Rattle.std.proofs.lemmas.Slice.Eq.{bytes_eq-Decides}
 use Rattle.std.specs.{Prelude.{not, ◌&&◌, filter, count_by, if◌then◌else◌}, Option.{option_or}, Ordering.{is_eq}, Str.{bytes_eq}}
 use Rattle.repo_model.proofs.Steps.{stanzas_in-ok}
 use Rattle.listed.proofs.Lists.{filter_short, filter_le, In_append_cases, In_map_cases, any_cases, any_from, filter_cases}

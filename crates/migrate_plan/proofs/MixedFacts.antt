@@ -1,6 +1,6 @@
 -- The packages of a mix are those of both indexes, but for the numbers of their lines; and what they say is asked alike.
-use Rattle.std.proofs.Common.{◌≡◌, ℕ, ◌+◌, ◌≤◌, Bool, true, false, cond, List, [], ◌∷◌, ◌++◌, length, map, Option, Some, None, refl, sym, ap, ap₂, subst, ◌∙◌, arith, length-append}
-use Rattle.std.proofs.{lemmas.List.{map-append}, Math.Path.{fun_ext}}
+use Rattle.std.proofs.Common.{◌≡◌, ℕ, ◌+◌, ◌≤◌, Bool, true, false, cond, List, [], ◌∷◌, ◌++◌, length, map, Option, Some, None, refl, sym, ap, ap₂, subst, ◌∙◌}
+use Rattle.std.proofs.{Common.{arith, length-append}, lemmas.List.{map-append}, Math.Path.{fun_ext}}
 use Rattle.std.specs.{Prelude.{count_by, filter, is_some, ◌||◌, if◌then◌else◌}, List.{items_where_true}, Option.{option_or}, Str.{bytes_eq}}
 use Rattle.stanza_reader.specs.Lines.{is_line_feed}
 use Rattle.stanza_reader.specs.declared.stanza.FieldKind.TheVariants.{Breaks, Conflicts, Depends, Package, PreDepends, Provides, Version}
@@ -160,9 +160,9 @@ few_mixed olds news taken all few inside =
     omega arith
 
 -- these, by a flag for each package of the new index
-pub few_whole : (olds news : List PackageFacts) (names : List (List ℕ)) (added : List Bool) → packages_with olds news names ≤ most_packages → added ≡ map (λ facts. is_taken names facts.name) news
+pub few_of_both : (olds news : List PackageFacts) (names : List (List ℕ)) (added : List Bool) → packages_with olds news names ≤ most_packages → added ≡ map (λ facts. is_taken names facts.name) news
     → length olds + length (items_where_true added news) ≤ most_packages
-few_whole olds news names added few adds =
+few_of_both olds news names added few adds =
     subst (λ ps. length olds + length ps ≤ most_packages) (sym (ap (λ flags. items_where_true flags news) adds ∙ flagged (λ facts. is_taken names facts.name) news)) few
 
 -- packages that differ in the numbers of their lines alone are asked alike

@@ -1,6 +1,6 @@
 -- The packages of a name, by their numbers.
-use Rattle.std.proofs.Common.{◌≡◌, ℕ, ◌+◌, ◌<◌, Bool, true, false, cond, List, [], ◌∷◌, ◌++◌, length, map, filter, refl, sym, ap, ◌∙◌, subst, append_assoc, length-append}
-use Rattle.std.proofs.Math.Seq.{get_or-append_seam}
+use Rattle.std.proofs.Common.{◌≡◌, ℕ, ◌+◌, ◌<◌, Bool, true, false, cond, List, [], ◌∷◌, ◌++◌, length, map, filter, refl, sym, ap, ◌∙◌, subst, append_assoc}
+use Rattle.std.proofs.{Common.{length-append}, Math.Seq.{get_or-append_seam}}
 use Rattle.std.specs.Str.{bytes_eq}
 use Rattle.relation_fields.specs.declared.packages.PackageFacts.{PackageFacts}
 use Rattle.listed.specs.Lists.{In}
@@ -12,13 +12,13 @@ use Rattle.migrate_plan.specs.Differing.{packages_of_name}
 
 -- the packages of the numbers are those that pass the test, behind a front
 numbered : (test : PackageFacts → Bool) (all front items : List PackageFacts) → all ≡ front ++ items → map (stanza_at all) (numbers_from (length front) test items) ≡ filter test items
-numbered test all front [] whole = refl
-numbered test all front (x ∷ items) whole =
+numbered test all front [] both = refl
+numbered test all front (x ∷ items) both =
     let rest : List ℕ = numbers_from (length front + 1) test items in
-    let is : stanza_at all (length front) ≡ x = ap (λ xs. stanza_at xs (length front)) whole ∙ get_or-append_seam front x items no_stanza in
+    let is : stanza_at all (length front) ≡ x = ap (λ xs. stanza_at xs (length front)) both ∙ get_or-append_seam front x items no_stanza in
     let size : length (front ++ x ∷ []) ≡ length front + 1 = length-append front (x ∷ []) in
     let later : map (stanza_at all) rest ≡ filter test items =
-    ap (λ n. map (stanza_at all) (numbers_from n test items)) (sym size) ∙ numbered test all (front ++ x ∷ []) items (whole ∙ sym (append_assoc front (x ∷ []) items)) in
+    ap (λ n. map (stanza_at all) (numbers_from n test items)) (sym size) ∙ numbered test all (front ++ x ∷ []) items (both ∙ sym (append_assoc front (x ∷ []) items)) in
     ap (map (stanza_at all)) (numbers_from-cons test (length front) x items) ∙ by (test x) rest is later
   where
     by : (b : Bool) (rest : List ℕ) → stanza_at all (length front) ≡ x → map (stanza_at all) rest ≡ filter test items → map (stanza_at all) (if_so b (length front) ++ rest) ≡ cond b (x ∷ filter test items) (filter test items)

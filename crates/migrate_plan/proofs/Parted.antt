@@ -1,9 +1,10 @@
 -- The kernel of some packages of all that mixes have, and the line that is told by it.
-use Rattle.std.proofs.Common.{◌≡◌, ℕ, ◌<◌, Bool, true, false, List, [], map, filter, length, slice_index_or, Option, Some, None, refl, sym, ap, ap₂, subst, ◌∙◌, zero-add}
-use Rattle.std.proofs.{lemmas.List.{get_or-map, length-map}, lemmas.Option.{none-some, same_Some}, lemmas.Simd.{map-map}}
+use Rattle.std.proofs.Common.{◌≡◌, ℕ, ◌<◌, Bool, true, false, List, [], map, filter, length, slice_index_or, Option, Some, None, refl, sym, ap, ap₂, subst, ◌∙◌}
+use Rattle.std.proofs.{Common.{zero-add}, lemmas.List.{get_or-map, length-map}, lemmas.Option.{none-some, same_Some}, lemmas.Simd.{map-map}}
 use Rattle.std.specs.{Prelude.{◌↔◌}, Global.{Vec}, List.{items_where_true}, Option.{ForSome, option_map}}
 use Rattle.class_merge.specs.{Classes.{class_in}, Masks.{masked_repository}, declared.masked.MaskedRows.{MaskedRows}}
-use Rattle.listed.{specs.Lists.{In}, proofs.Lists.{filter_cases, In_map_cases}}
+use Rattle.listed.specs.Lists.{In}
+use Rattle.listed.proofs.Lists.{filter_cases, In_map_cases, map_alike}
 use Rattle.clause_pool.specs.Interned.{row_at, Interned}
 use Rattle.kernel_rounds.{specs.Extracting.{IsExtracted}, specs.Known.{AreKnownRounds, IsClassifiedPart, IsFlatPart}, specs.declared.extraction.Kernel.{Kernel}, specs.declared.known.Classified.{Classified}, specs.Laws.{HoldUnused}, proofs.Again.{first_within}, proofs.Unheld.{hold_is_unused_lem}}
 use Rattle.relation_fields.{specs.declared.packages.Home.{Home}, specs.declared.packages.PackageFacts.{PackageFacts}}
@@ -11,11 +12,12 @@ use Rattle.repo_model.{specs.Goals.{any_version, packages_named}, specs.Reposito
 use Rattle.row_book.{specs.Book.{listed_for, repository_of}, specs.Flags.{flag}, specs.Flattening.{flat, packages, passes}, specs.Numbers.{numbers}, specs.Parts.{number_in, part, place_in}, specs.Repository.{Repository}}
 use Rattle.row_book.{specs.Rounds.{PassedRound, kernel, kernel_class, limit_at}, specs.Sound.{SoundRepository}, specs.declared.book.Book.{Book}, specs.declared.lent_book.LentBook.{LentBook}}
 use Rattle.row_book.proofs.{BookRepositories.{sound_repository}, Flags.{flag_in}, Numbers.{at_numbers, length_numbers}, PartSound.{part_sound}}
-use Rattle.row_book.proofs.{Parts.{map_alike, part_count}, Placed.{place_below}}
+use Rattle.row_book.proofs.{Parts.{part_count}, Placed.{place_below}}
 use Rattle.suite_compare.{specs.Bearers.{bearer_classes, bearers_of, AreClasses}, specs.Groups.{AreEach}, specs.Lent.{IsLentKernel}, specs.Views.{IsBookOf}, proofs.Bearing.{images_are}, proofs.Gathering.{named_inside}}
 use Rattle.suite_part.{specs.Mixes.{AreMixRows}, specs.declared.base.Base.{Base}, proofs.LawRows.{names_part, repository_part}}
-use Rattle.migrate_plan.specs.Whole.{book_made, classes_made, packages_of_both, pool_made, CanFollow, HasMixRows, IsKernelAt, IsMadeKernel, IsWhole, KnowsRounds}
-use Rattle.migrate_plan.specs.{declared.kernels.MadeKernel.{MadeKernel}, declared.whole.Whole.{Whole}, declared.kernels.MadeKernel.TheVariants.{Beside, Own}}
+use Rattle.migrate_plan.specs.BothSuites.{book_made, classes_made, packages_of_both, pool_made, CanFollow, HasMixRows, IsKernelAt, IsMadeKernel, AreBothSuites}
+use Rattle.migrate_plan.specs.{BothSuites.{KnowsRounds}, declared.kernels.MadeKernel.{MadeKernel}, declared.both_suites.BothSuites.{BothSuites}}
+use Rattle.migrate_plan.specs.declared.kernels.MadeKernel.TheVariants.{Beside, Own}
 
 some_passed : (o : Option PassedRound) → (o ≡ None → ⊥) → (passed : PassedRound) × (o ≡ Some passed)
 some_passed None f = absurd (f refl)
@@ -83,10 +85,10 @@ pub beside_known : (made : Option Classified) (rows : Vec ℕ) → ForSome made 
 beside_known None rows known kernel e = absurd (none-some kernel e)
 beside_known (Some classified) rows known kernel e = subst KnowsRounds (same_Some (Beside classified rows) kernel e) (known classified refl)
 
-pub beside_rows : (whole : Whole) (base : Base) (flags : List Bool) (made : Option Classified) (rows : Vec ℕ) → AreMixRows whole.pool whole.book base flags rows.items → ForSome (option_map (λ classified. Beside classified rows) made) (HasMixRows whole (Some base) flags)
-beside_rows whole base flags None rows are kernel e = absurd (none-some kernel e)
-beside_rows whole base flags (Some classified) rows are kernel e =
-    subst (HasMixRows whole (Some base) flags) (same_Some (Beside classified rows) kernel e) (λ before is. subst (λ b. AreMixRows whole.pool whole.book b flags rows.items) (same_Some base before is) are)
+pub beside_rows : (both : BothSuites) (base : Base) (flags : List Bool) (made : Option Classified) (rows : Vec ℕ) → AreMixRows both.pool both.book base flags rows.items → ForSome (option_map (λ classified. Beside classified rows) made) (HasMixRows both (Some base) flags)
+beside_rows both base flags None rows are kernel e = absurd (none-some kernel e)
+beside_rows both base flags (Some classified) rows are kernel e =
+    subst (HasMixRows both (Some base) flags) (same_Some (Beside classified rows) kernel e) (λ before is. subst (λ b. AreMixRows both.pool both.book b flags rows.items) (same_Some base before is) are)
 
 -- the rows of a mix, as the rounds ask for them
 pub flat_part : (limit : ℕ) (W : Repository) (flags : List Bool) (base : Base) (given : MaskedRows) → SoundRepository W → length flags ≡ length W.clauses → base.limit ≡ limit → passes base.limit false (part flags W) ≡ None
@@ -114,9 +116,9 @@ held_made limit true W flags made sound is =
     }
 
 -- the rows of a mix are rows over the base
-pub can_follow : (whole : Whole) (base : Option Base) (flags : List Bool) (made : MadeKernel) → HasMixRows whole base flags made → CanFollow base flags made
-can_follow whole base flags (Own pool kernel class_of) has = tt
-can_follow whole base flags (Beside classified rows) has = λ before is. (has before is).base_rows
+pub can_follow : (both : BothSuites) (base : Option Base) (flags : List Bool) (made : MadeKernel) → HasMixRows both base flags made → CanFollow base flags made
+can_follow both base flags (Own pool kernel class_of) has = tt
+can_follow both base flags (Beside classified rows) has = λ before is. (has before is).base_rows
 
 -- a book of packages has as many rows
 pub book_long : (pool : Interned) (book : Book) (home : Home) (packages : List PackageFacts) → IsBookOf pool book (suite_repository home packages) → length book.rows ≡ length packages
@@ -126,43 +128,43 @@ book_long pool book home packages is = sym (length-map book.rows (row_at pool)) 
 pub book_alike : (pool : Interned) (book : Book) (home other : Home) (packages others : List PackageFacts) → home ≡ other → packages ≡ others → IsBookOf pool book (suite_repository home packages) → IsBookOf pool book (suite_repository other others)
 book_alike pool book home other packages others same are is = subst (λ ps. IsBookOf pool book (suite_repository other ps)) are (subst (λ h. IsBookOf pool book (suite_repository h packages)) same is)
 
--- a mix of the packages of a whole
-module _ (whole : Whole) (is : IsWhole whole) (flags : List Bool) (fits : length flags ≡ length (packages_of_both whole)) where
+-- a mix of the packages of both suites
+module _ (both : BothSuites) (is : AreBothSuites both) (flags : List Bool) (fits : length flags ≡ length (packages_of_both both)) where
   abbrev all : List PackageFacts
-  all = packages_of_both whole
+  all = packages_of_both both
 
   abbrev mix : List PackageFacts
   mix = items_where_true flags all
 
   abbrev W : Repository
-  W = repository_of whole.pool whole.book
+  W = repository_of both.pool both.book
 
-  -- the part of the whole is the repository of the mix
-  pub mix_is : part flags W ≡ suite_repository whole.home mix
-  mix_is = ap (part flags) is.book_is.repository ∙ sym (repository_part whole.home all flags fits)
+  -- the part of the packages of both is the repository of the mix
+  pub mix_is : part flags W ≡ suite_repository both.home mix
+  mix_is = ap (part flags) is.book_is.repository ∙ sym (repository_part both.home all flags fits)
 
   -- it passes a limit as its part does
-  pub mix_over : (limit : ℕ) (hold : Bool) (passed : PassedRound) → limit_at limit hold (part flags W) ≡ Some passed → limit_at limit hold (suite_repository whole.home mix) ≡ Some passed
+  pub mix_over : (limit : ℕ) (hold : Bool) (passed : PassedRound) → limit_at limit hold (part flags W) ≡ Some passed → limit_at limit hold (suite_repository both.home mix) ≡ Some passed
   mix_over limit hold passed there = ap (limit_at limit hold) (sym mix_is) ∙ there
 
   -- its kernel as a comparison asks it, and the classes of the packages that bear each old name
   module _ (limit : ℕ) (hold : Bool) (made : MadeKernel) (given : IsMadeKernel limit hold W flags made) where
     abbrev names : List (List ℕ)
-    names = whole.old.now.names
+    names = both.old.now.names
 
-    pub mix_within : limit_at limit hold (suite_repository whole.home mix) ≡ None
+    pub mix_within : limit_at limit hold (suite_repository both.home mix) ≡ None
     mix_within = ap (limit_at limit hold) (sym mix_is) ∙ given.within
 
-    pub lent_is : (lent : LentBook) → lent.pool.now ≡ pool_made made → lent.book.now ≡ book_made made → IsLentKernel lent limit hold (suite_repository whole.home mix)
+    pub lent_is : (lent : LentBook) → lent.pool.now ≡ pool_made made → lent.book.now ≡ book_made made → IsLentKernel lent limit hold (suite_repository both.home mix)
     lent_is lent pool book = ap₂ repository_of pool book ∙ given.book_is.repository ∙ ap (kernel limit hold) mix_is
 
-    pub bearers_within : (named : List (List ℕ)) → named ≡ whole.named.items → (list : List ℕ) → In list named → (n : ℕ) → In n list → n < length flags
+    pub bearers_within : (named : List (List ℕ)) → named ≡ both.named.items → (list : List ℕ) → In list named → (n : ℕ) → In n list → n < length flags
     bearers_within named e list i n j =
         let w = In_map_cases (λ name. packages_named all (any_version name)) names list (subst (λ lists. In list lists) (e ∙ is.named_are) i) in
         subst (λ size. n < size) (sym fits) (named_inside all (any_version w.0) n (subst (λ z. In n z) w.2 j))
 
-    pub images_made : (class_of : List ℕ) (named images : List (List ℕ)) → class_of ≡ classes_made made → named ≡ whole.named.items
-        → AreEach (λ i image. AreClasses class_of (filter (flag flags) (listed_for named i)) image) [] (length named) images → images ≡ bearer_classes limit hold whole.home mix names
+    pub images_made : (class_of : List ℕ) (named images : List (List ℕ)) → class_of ≡ classes_made made → named ≡ both.named.items
+        → AreEach (λ i image. AreClasses class_of (filter (flag flags) (listed_for named i)) image) [] (length named) images → images ≡ bearer_classes limit hold both.home mix names
     images_made class_of named images e f each =
-        mix_images limit hold W (sound_repository whole.pool whole.book is.book_is.sound.rows.is_pool is.book_is.sound) flags (fits ∙ sym (length_clauses whole.home all) ∙ ap (λ R. length R.clauses) (sym is.book_is.repository))
-        whole.home all is.book_is.repository fits class_of (λ p up. ap (λ z. class_in z p) e ∙ given.class_of p up) names named images (f ∙ is.named_are) each
+        mix_images limit hold W (sound_repository both.pool both.book is.book_is.sound.rows.is_pool is.book_is.sound) flags (fits ∙ sym (length_clauses both.home all) ∙ ap (λ R. length R.clauses) (sym is.book_is.repository))
+        both.home all is.book_is.repository fits class_of (λ p up. ap (λ z. class_in z p) e ∙ given.class_of p up) names named images (f ∙ is.named_are) each

@@ -1,6 +1,6 @@
 -- What holds of a plan: its names, the reason of each line, and that the names taken break nothing.
-use Rattle.std.proofs.Common.{◌≡◌, ◌≢◌, ℕ, ◌+◌, ◌<◌, ◌≤◌, false, List, [], ◌∷◌, ◌++◌, length, get_or, drop, map, Some, None, Option, refl, sym, ap, ◌∙◌, subst, ◌⊎◌, inl, inr, append_assoc}
-use Rattle.std.proofs.lemmas.List.{append-nil, drop_all, drop_more, map-append}
+use Rattle.std.proofs.Common.{◌≡◌, ◌≢◌, ℕ, ◌+◌, ◌<◌, ◌≤◌, false, List, [], ◌∷◌, ◌++◌, length, get_or, drop, map, Some, None, Option, refl, sym, ap, ◌∙◌, subst}
+use Rattle.std.proofs.{Common.{◌⊎◌, inl, inr, append_assoc}, lemmas.List.{append-nil, drop_all, drop_more, map-append}}
 use Rattle.row_book.specs.Rounds.{PassedRound}
 use Rattle.listed.specs.Lists.{In}
 use Rattle.listed.proofs.Lists.{In_append_cases, In_cases, In_none}

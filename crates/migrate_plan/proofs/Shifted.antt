@@ -3,9 +3,10 @@ use Rattle.std.proofs.Common.{◌≡◌, ℕ, ◌+◌, Bool, true, false, cond, 
 use Rattle.std.specs.{Prelude.{filter, not, if◌then◌else◌}, List.{list_any, slice_split, onto_first, cons_option}, Option.{option_map, option_or}}
 use Rattle.stanza_reader.specs.{Close.{readings_from}, Fields.{behind_colon, continued, is_field_name, kind_of, name_of, trimmed}}
 use Rattle.stanza_reader.specs.Lines.{Line, is_continuation, lines, numbered}
-use Rattle.stanza_reader.specs.Stanzas.{first_line_fault, group_shape_fault, groups, has_line, has_name, is_blank_line, kept_field, kept_fields, line_fault, repeat_fault, stanza_of, texts, unless_fault}
-use Rattle.stanza_reader.specs.{declared.fault.StanzaFault.{StanzaFault}, declared.fault.StanzaFault.TheVariants.{NoColon, BadName, LoneContinuation, Repeated}}
-use Rattle.stanza_reader.specs.{declared.stanza.FieldKind.{FieldKind}, declared.stanza.RawField.{RawField}, declared.stanza.RawStanza.{RawStanza}}
+use Rattle.stanza_reader.specs.Stanzas.{first_line_fault, group_shape_fault, groups, has_line, has_name, is_blank_line, kept_field, kept_fields, line_fault}
+use Rattle.stanza_reader.specs.{Stanzas.{repeat_fault, stanza_of, texts, unless_fault}, declared.fault.StanzaFault.{StanzaFault}}
+use Rattle.stanza_reader.specs.{declared.fault.StanzaFault.TheVariants.{NoColon, BadName, LoneContinuation, Repeated}, declared.stanza.FieldKind.{FieldKind}}
+use Rattle.stanza_reader.specs.{declared.stanza.RawField.{RawField}, declared.stanza.RawStanza.{RawStanza}}
 use Rattle.deb_version.specs.Grammar.{is_colon}
 
 abbrev pub later_line : ℕ → Line → Line

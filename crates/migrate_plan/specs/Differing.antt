@@ -1,9 +1,13 @@
 -- The names that differ between two indexes: their packages do not say the same in both. What a
 -- package says is its version as it is written, its needs, its conflicts and its provides. Its line
 -- and its architecture are no part of it.
-use Rattle.std.specs.{Prelude.{ℕ, Bool, not, ◌&&◌, ◌==◌, List, ◌++◌, filter}, Cmp.Lexicographic.{pointwise}, Option.{option_eq}, Str.{bytes_eq}}
-use Rattle.relation_fields.specs.{declared.packages.PackageFacts.{PackageFacts}, declared.relations.Atom.{Atom}, declared.relations.Bound.{Bound}}
-use Rattle.relation_fields.specs.{declared.relations.Op.{Op}, declared.relations.Op.TheVariants.{Earlier, EarlierEqual, Exactly, LaterEqual, Later}}
+use Rattle.std.specs.Prelude.{ℕ, Bool, not, ◌&&◌, ◌==◌, List, ◌++◌, filter}
+use Rattle.std.specs.{Cmp.Lexicographic.{pointwise}, Option.{option_eq}, Str.{bytes_eq}}
+use Rattle.relation_fields.specs.declared.packages.PackageFacts.{PackageFacts}
+use Rattle.relation_fields.specs.{declared.relations.Atom.{Atom}, declared.relations.Bound.{Bound}}
+use Rattle.relation_fields.specs.declared.relations.Op.{Op}
+use Rattle.relation_fields.specs.declared.relations.Op.TheVariants.{Earlier, EarlierEqual, Exactly}
+use Rattle.relation_fields.specs.declared.relations.Op.TheVariants.{LaterEqual, Later}
 use Rattle.relation_fields.specs.declared.relations.Provide.{Provide}
 use Rattle.repo_model.specs.Goals.{names_in}
 

@@ -1,5 +1,6 @@
 -- An old and a new index, by their texts and by what is kept of these.
-use Rattle.std.specs.{Prelude.{◌≡◌, ℕ, Bool, List, Option, None, length, if◌then◌else◌}, List.{items_where_true, list_any}}
+use Rattle.std.specs.Prelude.{◌≡◌, ℕ, Bool, List, Option, None, length, if◌then◌else◌}
+use Rattle.std.specs.List.{items_where_true, list_any}
 use Rattle.relation_fields.specs.declared.packages.PackageFacts.{PackageFacts}
 use Rattle.repo_model.specs.{Feeding.{IsSuiteOf}, declared.suite.Suite.{Suite}}
 use Rattle.migrate_plan.specs.declared.lengths.TextLengths.{TextLengths}

@@ -4,7 +4,7 @@ pub mod Indexes
 pub mod Flagged
 pub mod Plan
 pub mod Trying
-pub mod Whole
+pub mod BothSuites
 pub mod Promises
 pub mod Refusals
 pub mod Laws

@@ -1,6 +1,7 @@
 -- A mix of two indexes: the stanzas of some names are those of the new index, all others are those
 -- of the old one.
-use Rattle.std.specs.{Prelude.{ℕ, Bool, not, List, [], ◌∷◌, ◌++◌, filter, length, map}, List.{list_any}, Str.{bytes_eq}}
+use Rattle.std.specs.Prelude.{ℕ, Bool, not, List, [], ◌∷◌, ◌++◌, filter, length, map}
+use Rattle.std.specs.{List.{list_any}, Str.{bytes_eq}}
 use Rattle.stanza_reader.specs.Blanking.{blanked}
 use Rattle.relation_fields.specs.declared.packages.PackageFacts.{PackageFacts}
 use Rattle.suite_compare.specs.Refusals.{packages_in}

@@ -3,7 +3,8 @@
 use Rattle.std.specs.Prelude.{ℕ, Bool, List, [], ◌∷◌, ◌++◌, Option, Some, None}
 use Rattle.row_book.specs.Rounds.{PassedRound, limit_at}
 use Rattle.repo_model.specs.Repository.{suite_repository}
-use Rattle.suite_compare.specs.{Asking.{verdict_in}, Names.{names_of_both}, Refusals.{home_in, packages_in}, Report.{report}}
+use Rattle.suite_compare.specs.{Asking.{verdict_in}, Names.{names_of_both}}
+use Rattle.suite_compare.specs.{Refusals.{home_in, packages_in}, Report.{report}}
 use Rattle.suite_compare.specs.declared.report.ReportLine.{ReportLine}
 use Rattle.migrate_plan.specs.{Differing.{differing}, Mix.{mix}, declared.plan.PlanLine.{PlanLine}}
 use Rattle.migrate_plan.specs.declared.plan.PlanLine.TheVariants.{Take, LeftLimit, LeftLine}

@@ -3,10 +3,13 @@ use Rattle.std.specs.Prelude.{◌≡◌, ◌≢◌, ℕ, false, List, [], ◌∷
 use Rattle.row_book.specs.Rounds.{PassedRound}
 use Rattle.listed.specs.Lists.{In}
 use Rattle.repo_model.specs.FirstFault.{first_fault}
-use Rattle.suite_compare.specs.{Refusals.{packages_in}, declared.report.ReportLine.{ReportLine}, Indexes.{SearchedIndex, searched}}
+use Rattle.suite_compare.specs.{Refusals.{packages_in}, declared.report.ReportLine.{ReportLine}}
+use Rattle.suite_compare.specs.Indexes.{SearchedIndex, searched}
 use Rattle.suite_compare.specs.Listing.{LosesNothing, is_broken}
-use Rattle.migrate_plan.specs.{Differing.{differing}, Mix.{mix}, Plan.{Settings, lines_between, passed_in, taken_in, tried_mix}}
-use Rattle.migrate_plan.specs.{declared.plan.PlanLine.{PlanLine}, declared.plan.PlanLine.TheVariants.{Take, LeftLimit, LeftLine}}
+use Rattle.migrate_plan.specs.{Differing.{differing}, Mix.{mix}}
+use Rattle.migrate_plan.specs.Plan.{Settings, lines_between, passed_in, taken_in, tried_mix}
+use Rattle.migrate_plan.specs.declared.plan.PlanLine.{PlanLine}
+use Rattle.migrate_plan.specs.declared.plan.PlanLine.TheVariants.{Take, LeftLimit, LeftLine}
 
 -- every mix of names that differ is an accepted index
 abbrev pub MixesAreIndexes : List ℕ → List ℕ → Type 0

@@ -4,13 +4,16 @@
 --   3. the packages of the old index and those of the new one whose names differ are more than
 --      200,000;
 --   4. the two texts and two line feeds have more than 1,073,741,824 bytes.
-use Rattle.std.specs.{Prelude.{◌≡◌, ⊤, ℕ, ◌+◌, Bool, false, not, nat_lt, if◌then◌else◌, List, Option, Some, None, filter, length}, Option.{option_or}}
-use Rattle.std.specs.Str.{bytes_eq}
+use Rattle.std.specs.Prelude.{◌≡◌, ⊤, ℕ, ◌+◌, Bool, false, not, nat_lt, if◌then◌else◌, List, Option}
+use Rattle.std.specs.{Prelude.{Some, None, filter, length}, Option.{option_or}, Str.{bytes_eq}}
 use Rattle.repo_model.specs.Limits.{most_bytes, most_packages}
-use Rattle.relation_fields.specs.{declared.packages.Home.{Home}, declared.packages.PackageFacts.{PackageFacts}}
+use Rattle.relation_fields.specs.declared.packages.Home.{Home}
+use Rattle.relation_fields.specs.declared.packages.PackageFacts.{PackageFacts}
 use Rattle.suite_compare.specs.Refusals.{home_in, packages_in}
-use Rattle.migrate_plan.specs.{Differing.{differing}, Mix.{is_taken}, declared.refusals.PlanError.{PlanError}}
-use Rattle.migrate_plan.specs.declared.refusals.PlanError.TheVariants.{Homes, Names, Packages, TooLong, Memory}
+use Rattle.migrate_plan.specs.{Differing.{differing}, Mix.{is_taken}}
+use Rattle.migrate_plan.specs.declared.refusals.PlanError.{PlanError}
+use Rattle.migrate_plan.specs.declared.refusals.PlanError.TheVariants.{Homes, Names, Packages}
+use Rattle.migrate_plan.specs.declared.refusals.PlanError.TheVariants.{TooLong, Memory}
 
 -- both are there, and differ
 abbrev pub are_apart : Option (List ℕ) → Option (List ℕ) → Bool

@@ -3,11 +3,14 @@
 use Rattle.std.specs.Prelude.{◌≡◌, ℕ, Bool, List, [], drop, Option, Some, None}
 use Rattle.row_book.specs.Rounds.{PassedRound, limit_at}
 use Rattle.listed.specs.Lists.{In}
-use Rattle.relation_fields.specs.{declared.packages.Home.{Home}, declared.packages.PackageFacts.{PackageFacts}}
+use Rattle.relation_fields.specs.declared.packages.Home.{Home}
+use Rattle.relation_fields.specs.declared.packages.PackageFacts.{PackageFacts}
 use Rattle.repo_model.specs.Repository.{suite_repository}
-use Rattle.suite_compare.specs.{Asking.{verdict_in}, Names.{names_of_both}, Report.{report}, declared.report.ReportLine.{ReportLine}}
+use Rattle.suite_compare.specs.{Asking.{verdict_in}, Names.{names_of_both}, Report.{report}}
+use Rattle.suite_compare.specs.declared.report.ReportLine.{ReportLine}
 use Rattle.suite_compare.specs.declared.view.SuiteView.{SuiteView}
-use Rattle.migrate_plan.specs.{Plan.{lines_behind, outcome_of, taken_in, Settings}, declared.plan.PlanLine.{PlanLine}}
+use Rattle.migrate_plan.specs.Plan.{lines_behind, outcome_of, taken_in, Settings}
+use Rattle.migrate_plan.specs.declared.plan.PlanLine.{PlanLine}
 
 -- a view of packages that are within a clause limit, made at this limit, with hold or without
 pub record IsMade (home : Home) (packages : List PackageFacts) (limit : ℕ) (hold : Bool)

@@ -1,7 +1,9 @@
-//! Whether two packages say the same. If the packages of a name do, the name is no difference of
-//! two indexes, and no mix is made for it.
-ghost use Rattle.std.specs.{Prelude.{◌≡◌}, Cmp.Lexicographic.{pointwise}, Option.{option_eq}, Str.{bytes_eq}};
-ghost use Rattle.migrate_plan.specs.Differing.{is_same_atom, is_same_bound, is_same_provide, op_place, says_same};
+//! Whether two packages say the same. If this holds of the packages of a name, the name does not
+//! differ between the two indexes, and no mix is made for it.
+ghost use Rattle.std.specs.{Prelude.{◌≡◌}, Cmp.Lexicographic.{pointwise}, Option.{option_eq}};
+ghost use Rattle.std.specs.Str.{bytes_eq};
+ghost use Rattle.migrate_plan.specs.Differing.{is_same_atom, is_same_bound, is_same_provide};
+ghost use Rattle.migrate_plan.specs.Differing.{op_place, says_same};
 
 use deb_version::{Bytes, Version};
 use relation_fields::{Atom, AtomList, Bound, Op, PackageFacts, Provide};

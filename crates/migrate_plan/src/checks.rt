@@ -1,7 +1,9 @@
 //! When no plan is made.
 ghost use Rattle.std.specs.Prelude.{◌≡◌, ◌≤◌, ◌+◌, None, IfErr, IfOk, OnOk, length};
-ghost use Rattle.migrate_plan.specs.Refusals.{above, are_apart, homes_refusal, packages_with, RefusesPlan};
-ghost use Rattle.migrate_plan.specs.declared.refusals.PlanError.TheVariants.{Names, Packages, TooLong};
+ghost use Rattle.migrate_plan.specs.Refusals.{above, are_apart, homes_refusal, packages_with};
+ghost use Rattle.migrate_plan.specs.Refusals.{RefusesPlan};
+ghost use Rattle.migrate_plan.specs.declared.refusals.PlanError.TheVariants.{Names, Packages};
+ghost use Rattle.migrate_plan.specs.declared.refusals.PlanError.TheVariants.{TooLong};
 ghost use Rattle.repo_model.specs.Limits.{most_bytes, most_packages};
 
 use crate::flags::count_among;

@@ -1,5 +1,6 @@
 //! The names that differ between two indexes.
-ghost use Rattle.std.specs.{Prelude.{◌≡◌, ◌<◌, ℕ, filter, length, map, slice_index, IfOk}, Cmp.Lexicographic.{pointwise}};
+ghost use Rattle.std.specs.Prelude.{◌≡◌, ◌<◌, ℕ, filter, length, map, slice_index, IfOk};
+ghost use Rattle.std.specs.Cmp.Lexicographic.{pointwise};
 ghost use Rattle.listed.specs.Lists.{In};
 ghost use Rattle.repo_model.specs.Stanzas.{stanza_at};
 ghost use Rattle.migrate_plan.specs.Differing.{differing, differs, says_same};

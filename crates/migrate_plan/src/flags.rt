@@ -1,6 +1,7 @@
 //! Which packages come into a mix: those of the newer index whose names are in a set, and those of
 //! the older one whose names are not.
-ghost use Rattle.std.specs.Prelude.{◌≡◌, false, true, filter, length, map, not, replicate, slice_set, IfOk};
+ghost use Rattle.std.specs.Prelude.{◌≡◌, false, true, filter, length, map, not, replicate};
+ghost use Rattle.std.specs.Prelude.{slice_set, IfOk};
 ghost use Rattle.migrate_plan.specs.{Flagged.{Raises}, Mix.{count_named, is_left, is_taken}};
 
 use deb_version::Bytes;

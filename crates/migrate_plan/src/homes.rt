@@ -1,9 +1,10 @@
 //! The common architecture of a mix.
 //!
-//! A suite has one architecture beside `all` at most, and each package knows whether it has it. So
-//! that of a mix is the first suite's, if a package of that suite that has it is in the mix, or
-//! else the second's likewise.
-ghost use Rattle.std.specs.{Prelude.{◌≡◌, ◌&&◌, IfOk, slice_index_or, false}, List.{items_where_true}, Option.{option_or}};
+//! A suite has at most one architecture besides `all`, and each package knows whether it is of that
+//! one. If the mix has such a package of the first suite, its architecture is that of the mix. If
+//! not, this is tried with the second suite.
+ghost use Rattle.std.specs.Prelude.{◌≡◌, ◌&&◌, IfOk, slice_index_or, false};
+ghost use Rattle.std.specs.{List.{items_where_true}, Option.{option_or}};
 ghost use Rattle.migrate_plan.specs.Indexes.{has_arch_dependent, home_where};
 
 use deb_version::Bytes;

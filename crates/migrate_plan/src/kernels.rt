@@ -1,13 +1,13 @@
 //! The kernels of mixes.
 ghost use Rattle.std.specs.Prelude.{◌≡◌};
 ghost use Rattle.row_book.specs.Book.{Sound};
-ghost use Rattle.migrate_plan.specs.Whole.{book_made, classes_made, pool_made};
+ghost use Rattle.migrate_plan.specs.BothSuites.{book_made, classes_made, pool_made};
 
 use clause_pool::{Pool, RowId};
 use kernel_rounds::{Classified, Kernel};
 use row_book::LentBook;
 
-/// A kernel that was made of a mix, with the class of each package in the numbers of the whole.
+/// A kernel that was made of a mix, with the class of each package in the numbers of both suites.
 #[derive(Drop)]
 pub(crate) enum MadeKernel {
     /// It was made by itself, over a pool of its own.

@@ -3,7 +3,7 @@
 #![tactic(auto)]
 
 mod alike;
-mod carried;
+mod both_suites;
 mod checks;
 mod differing;
 mod flags;
@@ -17,8 +17,8 @@ mod names;
 mod parting;
 mod plan;
 mod refusals;
+mod reuse;
 mod trying;
-mod whole;
 
 // A plan is made.
 pub use lengths::TextLengths;

@@ -1,15 +1,19 @@
 //! Makes a plan: which names of a newer index can be taken over into an older one.
-ghost use Rattle.std.specs.Prelude.{◌≡◌, ◌<◌, ◌≤◌, ◌++◌, ◌∷◌, ℕ, List, [], None, length, map, IfOk, IfErr, OnOk};
+ghost use Rattle.std.specs.Prelude.{◌≡◌, ◌<◌, ◌≤◌, ◌++◌, ◌∷◌, ℕ, List, [], None, length, map, IfOk};
+ghost use Rattle.std.specs.Prelude.{IfErr, OnOk};
 ghost use Rattle.clause_solver.specs.Outcomes.{IsBudget};
 ghost use Rattle.repo_model.specs.{Feeding.{IsSuiteOf}, Limits.{most_bytes, most_packages}};
 ghost use Rattle.listed.specs.Lists.{In};
 ghost use Rattle.migrate_plan.specs.{Differing.{differing}, Indexes.{AreMeasured, AreTexts, Texts}};
 ghost use Rattle.migrate_plan.specs.Plan.{line_behind, lines_behind, plan, plan_settings, taken_in};
-ghost use Rattle.migrate_plan.specs.{Promises.{AreRight, MixesAreIndexes, TakesSafely, planned_name}, Refusals.{RefusesPlan, packages_with, plan_refusal}};
-ghost use Rattle.migrate_plan.specs.{Whole.{names_between, settings_between, AreTextsOf, IsCarried, IsWhole}, declared.plan.PlanLine.{PlanLine}};
+ghost use Rattle.migrate_plan.specs.Promises.{AreRight, MixesAreIndexes, TakesSafely, planned_name};
+ghost use Rattle.migrate_plan.specs.Refusals.{RefusesPlan, packages_with, plan_refusal};
+ghost use Rattle.migrate_plan.specs.BothSuites.{names_between, settings_between, AreTextsOf};
+ghost use Rattle.migrate_plan.specs.BothSuites.{IsReuse, AreBothSuites};
+ghost use Rattle.migrate_plan.specs.declared.plan.PlanLine.{PlanLine};
 ghost use Rattle.suite_compare.specs.Refusals.{packages_in};
 
-use crate::carried::{Carried, first_carried};
+use crate::both_suites::{BothSuites, both_suites_of};
 use crate::checks::{check_homes, check_length, check_names, check_packages};
 use crate::differing::differing_names;
 use crate::lengths::TextLengths;
@@ -17,8 +21,8 @@ use crate::mixing::{is_same_home, mix_with, suite_of};
 use crate::parting::{flags_in, line_in};
 use crate::plan::{Plan, PlanLine, PlanList};
 use crate::refusals::PlanError;
+use crate::reuse::{Reuse, first_reuse};
 use crate::trying::line_of;
-use crate::whole::{Whole, whole_of};
 use deb_version::Bytes;
 use repo_model::Suite;
 use std::alloc::{AllocError, Global};
@@ -138,13 +142,14 @@ fn lines_of(
         lines ≡ lines_behind (line_behind settings texts.old texts.new) [] names.now) }
 {
     let side = OldSide::new(alloc, old, budget)?;
-    let lines = lines_with(alloc, &side, new, names);
+    let lines = lines_by_side(alloc, &side, new, names);
+    // Its one end: a proof follows each field at every end of the body that owns it.
     drop(side);
     lines
 }
 
 // The lines, by the side of the old view.
-fn lines_with(
+fn lines_by_side(
     alloc: Global,
     old: &OldSide,
     new: &Suite,
@@ -159,46 +164,48 @@ fn lines_with(
         IfOk result (λ lines. (texts : Texts) → AreTexts texts old.now.view.now.suite new.now →
         lines ≡ lines_behind (line_behind settings texts.old texts.new) [] names.now) }
 {
-    let whole = whole_of(alloc, old, new, names)?;
-    let lines = lines_beside(alloc, &whole, names);
-    drop(whole);
+    let both = both_suites_of(alloc, old, new, names)?;
+    let lines = lines_by_mixes(alloc, &both, names);
+    // Its one end: a proof follows each field at every end of the body that owns it.
+    drop(both);
     lines
 }
 
 // The lines, by what all mixes are made of.
-fn lines_beside(alloc: Global, whole: &Whole, names: &[Bytes]) -> Result<PlanList, AllocError>
-    requires whole { IsWhole whole.now }
-    requires names { names.now ≡ names_between whole.now }
-    requires limit { 0 < whole.now.old.now.view.now.limit }
-    ensures { IfOk result (λ lines. (texts : Texts) → AreTextsOf texts whole.now →
+fn lines_by_mixes(alloc: Global, both: &BothSuites, names: &[Bytes]) -> Result<PlanList, AllocError>
+    requires both { AreBothSuites both.now }
+    requires names { names.now ≡ names_between both.now }
+    requires limit { 0 < both.now.old.now.view.now.limit }
+    ensures { IfOk result (λ lines. (texts : Texts) → AreTextsOf texts both.now →
         lines ≡ lines_behind
-        (line_behind (settings_between whole.now) texts.old texts.new) [] names.now) }
+        (line_behind (settings_between both.now) texts.old texts.new) [] names.now) }
 {
-    let mut carried = first_carried(alloc, whole)?;
-    let lines = lines_after(alloc, whole, names, &mut carried);
-    drop(carried);
+    let mut reuse = first_reuse(alloc, both)?;
+    let lines = lines_in_turn(alloc, both, names, &mut reuse);
+    // Its one end: a proof follows each field at every end of the body that owns it.
+    drop(reuse);
     lines
 }
 
 // The lines, by what is handed on from mix to mix.
-fn lines_after(
+fn lines_in_turn(
     alloc: Global,
-    whole: &Whole,
+    both: &BothSuites,
     names: &[Bytes],
-    carried: &mut Carried,
+    reuse: &mut Reuse,
 ) -> Result<PlanList, AllocError>
-    requires whole { IsWhole whole.now }
-    requires names { names.now ≡ names_between whole.now }
-    requires limit { 0 < whole.now.old.now.view.now.limit }
-    requires carried { IsCarried whole.now carried.old }
-    ensures { IfOk result (λ lines. (texts : Texts) → AreTextsOf texts whole.now →
+    requires both { AreBothSuites both.now }
+    requires names { names.now ≡ names_between both.now }
+    requires limit { 0 < both.now.old.now.view.now.limit }
+    requires reuse { IsReuse both.now reuse.old }
+    ensures { IfOk result (λ lines. (texts : Texts) → AreTextsOf texts both.now →
         lines ≡ lines_behind
-        (line_behind (settings_between whole.now) texts.old texts.new) [] names.now) }
+        (line_behind (settings_between both.now) texts.old texts.new) [] names.now) }
 {
     let mut lines = PlanList::new(alloc);
     let mut taken = Vec::new(alloc);
     for name in names {
-        let line = try_name(alloc, whole, taken.as_slice(), name.as_slice(), carried)?;
+        let line = try_name(alloc, both, taken.as_slice(), name.as_slice(), reuse)?;
         put_taken(alloc, &mut taken, &line)?;
         lines.push(line)?;
     }
@@ -208,33 +215,33 @@ fn lines_after(
 // The line of a name after lines that take these names.
 fn try_name(
     alloc: Global,
-    whole: &Whole,
+    both: &BothSuites,
     taken: &[Bytes],
     name: &[u8],
-    carried: &mut Carried,
+    reuse: &mut Reuse,
 ) -> Result<PlanLine, AllocError>
-    requires whole { IsWhole whole.now }
-    requires taken { (other : List ℕ) → In other taken.now → In other (names_between whole.now) }
-    requires name { In name.now (names_between whole.now) }
-    requires limit { 0 < whole.now.old.now.view.now.limit }
-    requires carried { IsCarried whole.now carried.old }
+    requires both { AreBothSuites both.now }
+    requires taken { (other : List ℕ) → In other taken.now → In other (names_between both.now) }
+    requires name { In name.now (names_between both.now) }
+    requires limit { 0 < both.now.old.now.view.now.limit }
+    requires reuse { IsReuse both.now reuse.old }
     ensures named { IfOk result (λ line. planned_name line ≡ name.now) }
-    ensures line { IfOk result (λ line. (texts : Texts) → AreTextsOf texts whole.now →
+    ensures line { IfOk result (λ line. (texts : Texts) → AreTextsOf texts both.now →
         (lines : List PlanLine) → taken.now ≡ taken_in lines →
-        line ≡ line_behind (settings_between whole.now) texts.old texts.new lines name.now) }
-    ensures carried { OnOk result (IsCarried whole.now carried.new) }
+        line ≡ line_behind (settings_between both.now) texts.old texts.new lines name.now) }
+    ensures reuse { OnOk result (IsReuse both.now reuse.new) }
 {
-    let suite = &whole.old.view.suite;
-    let mix = mix_with(alloc, suite, whole.new, taken, name)?;
-    if is_same_home(&mix.home, &whole.home) {
-        let flags = flags_in(alloc, &mix.left, &mix.kept, &whole.added)?;
-        let found = line_in(alloc, whole, flags, name, carried)?;
+    let suite = &both.old.view.suite;
+    let mix = mix_with(alloc, suite, both.new, taken, name)?;
+    if is_same_home(&mix.home, &both.home) {
+        let flags = flags_in(alloc, &mix.left, &mix.kept, &both.added)?;
+        let found = line_in(alloc, both, flags, name, reuse)?;
         return Ok(found);
     }
     // If no package of that architecture is in the mix, packages meet each other in another way
     // than in the whole.
-    let made = suite_of(alloc, suite, whole.new, mix)?;
-    let line = line_of(alloc, whole.old, made, name)?;
+    let made = suite_of(alloc, suite, both.new, mix)?;
+    let line = line_of(alloc, both.old, made, name)?;
     Ok(line)
 }
 

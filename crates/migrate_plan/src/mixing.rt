@@ -1,5 +1,6 @@
 //! Mixes of two indexes: which packages a mix has. No text of a mix is made.
-ghost use Rattle.std.specs.{Prelude.{◌≡◌, ◌++◌, ◌∷◌, ◌≤◌, ◌+◌, [], length, map, IfOk}, Bool.{OnTrue}, List.{items_where_true}};
+ghost use Rattle.std.specs.Prelude.{◌≡◌, ◌++◌, ◌∷◌, ◌≤◌, ◌+◌, [], length, map, IfOk};
+ghost use Rattle.std.specs.{Bool.{OnTrue}, List.{items_where_true}};
 ghost use Rattle.repo_model.specs.Limits.{most_packages};
 ghost use Rattle.suite_compare.specs.Refusals.{home_in};
 ghost use Rattle.migrate_plan.specs.{Mix.{is_left, is_taken, mix}, Indexes.{AreTexts, Texts}};

@@ -18,7 +18,7 @@ pub(crate) fn names_of_either(
     distinct_names(alloc, names)
 }
 
-// The names of the packages of both in the order of the packages.
+// One name for each package, lent from it: first those of the old index, then those of the new.
 fn lent_names<'a>(
     alloc: Global,
     old: &'a [PackageFacts],

@@ -1,6 +1,7 @@
 //! What becomes of a name, by the mix with it.
 ghost use Rattle.std.specs.Prelude.{◌≡◌, ◌<◌, List, None, IfOk};
-ghost use Rattle.migrate_plan.specs.{Plan.{outcome_of, plan_settings}, Trying.{outcome_by, told_of, IsViewAt}};
+ghost use Rattle.migrate_plan.specs.Plan.{outcome_of, plan_settings};
+ghost use Rattle.migrate_plan.specs.Trying.{outcome_by, told_of, IsViewAt};
 ghost use Rattle.suite_compare.specs.{Report.{first_told}, declared.report.ReportLine.{ReportLine}};
 
 use crate::plan::PlanLine;
@@ -10,7 +11,7 @@ use std::alloc::{AllocError, Global};
 use suite_compare::{LimitError, OldSide, ReportLine, SuiteView, first_line};
 
 /// The line of a name by the suite of the mix with it, at the limit and hold of the view of the old
-/// index. Such a suite is made only if the mix has another common architecture than the whole.
+/// index. Such a suite is made only if the mix has another common architecture than both suites.
 pub(crate) fn line_of(
     alloc: Global,
     old: &OldSide,
@@ -27,6 +28,7 @@ pub(crate) fn line_of(
     match made {
         Some(view) => {
             let line = line_by_view(alloc, old, &view, name);
+            // Its one end: a proof follows each field at every end of the body that owns it.
             drop(view);
             line
         }
@@ -53,7 +55,7 @@ fn line_by_view(
         before.suite.packages view.now.suite.home view.now.suite.packages)) }
 {
     let first = first_line(alloc, old, view)?;
-    let line = line_by_first(alloc, name, first)?;
+    let line = plan_line(alloc, name, first)?;
     Ok(line)
 }
 
@@ -75,7 +77,7 @@ fn view_of(
 }
 
 /// The line of a name by the first line of the comparison with its mix.
-pub(crate) fn line_by_first(
+pub(crate) fn plan_line(
     alloc: Global,
     name: &[u8],
     first: Option<ReportLine>,

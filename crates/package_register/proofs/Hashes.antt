@@ -1,5 +1,6 @@
 -- Look-ups by a hash in a table whose values are seen as lists of numbers.
-use Rattle.std.proofs.Common.{◌≡◌, ℕ, Bool, true, false, eqb, List, [], ◌∷◌, Option, Some, None, IsSome, is_some, Result, Ok, Err, OnOk, IfOk, length, refl, sym, ap, subst, ◌∙◌, eqb-true}
+use Rattle.std.proofs.Common.{◌≡◌, ℕ, Bool, true, false, eqb, List, [], ◌∷◌, Option, Some, None, IsSome, is_some, Result, Ok, Err, OnOk, IfOk, length, refl}
+use Rattle.std.proofs.Common.{sym, ap, subst, ◌∙◌, eqb-true}
 use Rattle.std.specs.{Prelude.{if◌then◌else◌}, Option.{option_map_or}, Map.{KeepsOthers}, HashMap.{HashMap, get_by, UpdatesBy}}
 use Rattle.package_register.specs.Hashed.{with_number}
 

@@ -1,7 +1,7 @@
 -- The numbers of the items of a list that pass a test.
-use Rattle.std.proofs.Common.{◌≡◌, ℕ, zero, suc, ◌+◌, ◌↔◌, Bool, true, false, cond, List, [], ◌∷◌, ◌++◌, filter, length, map, inl, inr, refl, sym, ap, subst, ◌∙◌, add-zero, zero-add, arith}
-use Rattle.std.proofs.{lemmas.Bool.{false≢true, or_cases, or_left, or_right}, lemmas.Bool.Decides.{nat_tests}, lemmas.List.Elements.{filter-append}}
-use Rattle.std.specs.{Prelude.{◌==◌}, List.{enumerate_from, list_any}}
+use Rattle.std.proofs.Common.{◌≡◌, ℕ, zero, suc, ◌+◌, ◌↔◌, Bool, true, false, cond, List, [], ◌∷◌, ◌++◌, filter, map, inl, inr, refl, sym, ap, subst, ◌∙◌}
+use Rattle.std.proofs.{Common.{add-zero, zero-add, arith}, lemmas.Bool.{false≢true, or_cases, or_left, or_right}, lemmas.List.Elements.{filter-append}}
+use Rattle.std.specs.List.{enumerate_from, list_any}
 use Rattle.listed.specs.Lists.{In, here, has, Ascending, Inside}
 use Rattle.listed.proofs.{Lists.{In_cases, In_none, In_append_right, any_cases, any_from, filter_cases, filter_from, has_In}, Bools.{same_bool}}
 use Rattle.listed.proofs.Orders.{ascending_same}
@@ -10,11 +10,6 @@ use Rattle.package_register.specs.Numbers.{numbers_from, numbers_where, passes_a
 -- what passes of each of two lists is what passes of both together
 pub passing_both : (test : ℕ → Bool) (xs ys kept more all : List ℕ) → all ≡ kept ++ more → kept ≡ filter test xs → more ≡ filter test ys → all ≡ filter test (xs ++ ys)
 passing_both test xs ys kept more all e k m = let both : filter test (xs ++ ys) ≡ filter test xs ++ filter test ys = filter-append test xs ys in cc
-
--- a list without items
-pub none_in : (xs : List ℕ) → (length xs == 0) ≡ true → xs ≡ []
-none_in [] e = refl
-none_in (x ∷ xs) e = absurd (let f : ⊥ = grind (arith, nat_tests) in f)
 
 module _ {X : Type 0} (test : X → Bool) where
   -- the first item, and the others

@@ -1,6 +1,6 @@
 -- What a register finds, as it grows, and what is asked of it.
-use Rattle.std.proofs.Common.{◌≡◌, ℕ, zero, suc, ◌≤◌, ◌⊎◌, true, false, List, [], ◌∷◌, ◌++◌, length, take, Option, Some, None, inl, inr, refl, sym, ap, subst, ◌∙◌}
-use Rattle.std.proofs.{lemmas.Bool.{and_parts, false≢true}, lemmas.List.{take_all}}
+use Rattle.std.proofs.Common.{◌≡◌, ℕ, zero, suc, ◌≤◌, ◌⊎◌, true, false, List, [], ◌∷◌, ◌++◌, length, take, Option, Some, None, inl, inr, refl, sym, ap, subst}
+use Rattle.std.proofs.{Common.{◌∙◌}, lemmas.Bool.{and_parts, false≢true}, lemmas.List.{take_all}}
 use Rattle.std.specs.{Cmp.{Equal-is}, Option.{option_map_or}, Ordering.{is_eq}, Prelude.{slice_get}}
 use Rattle.deb_version.specs.{Grammar.{is_version}, Keys.{version_key}, Order.{version_order}}
 use Rattle.deb_version.proofs.EqualKeys.{equal_keys}

@@ -1,9 +1,11 @@
 -- Lists of numbers by hashes.
-use Rattle.std.specs.Prelude.{◌≡◌, ℕ, ◌-◌, ◌++◌, Bool, false, ◌==◌, eqb, nat_eq, if◌then◌else◌, List, [], ◌∷◌, length, slice_get}
+use Rattle.std.specs.Prelude.{◌≡◌, ℕ, ◌-◌, ◌++◌, Bool, false, ◌==◌, eqb, nat_eq, if◌then◌else◌}
+use Rattle.std.specs.Prelude.{List, [], ◌∷◌, length, slice_get}
 use Rattle.std.specs.Hash.FoldHasher as folding
 use Rattle.std.specs.Option.{option_map_or}
 use Rattle.indexmap.specs.IndexMap.{get}
-use Rattle.package_register.specs.{declared.hashed.NumberList.{NumberList}, declared.hashed.NumberList.TheVariants.{One, Many}}
+use Rattle.package_register.specs.declared.hashed.NumberList.{NumberList}
+use Rattle.package_register.specs.declared.hashed.NumberList.TheVariants.{One, Many}
 use Rattle.package_register.specs.declared.hashed.NumbersByHash.{NumbersByHash}
 
 -- a number that is the same for equal texts

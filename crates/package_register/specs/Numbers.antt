@@ -1,5 +1,6 @@
 -- Numbers of the items of a list.
-use Rattle.std.specs.{Prelude.{ℕ, Bool, false, if◌then◌else◌, List, [], ◌∷◌, map, filter, slice_get}, List.{enumerate_from}, Option.{option_map_or}}
+use Rattle.std.specs.Prelude.{ℕ, Bool, false, if◌then◌else◌, List, [], ◌∷◌, map, filter, slice_get}
+use Rattle.std.specs.{List.{enumerate_from}, Option.{option_map_or}}
 
 -- the numbers of the items that pass the test, ascending; the items are numbered from n in their
 -- order

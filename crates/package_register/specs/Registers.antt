@@ -1,11 +1,13 @@
 -- Registers: an item with a name and a version is found under its name, and under its name with
 -- each version that compares as equal to its own. A register may give more numbers than these, but
 -- never fewer.
-use Rattle.std.specs.{Prelude.{◌≡◌, ℕ, Bool, true, ◌&&◌, ◌⊎◌, List, ◌∷◌, ◌++◌, take, slice_get, Option, Some}, Coded.{Coded-set, coded_bool}, Ordering.{is_eq}}
+use Rattle.std.specs.Prelude.{◌≡◌, ℕ, Bool, true, ◌&&◌, ◌⊎◌, List, ◌∷◌, ◌++◌, take, slice_get}
+use Rattle.std.specs.{Prelude.{Option, Some}, Coded.{Coded-set, coded_bool}, Ordering.{is_eq}}
 use Rattle.std.specs.Str.{bytes_eq}
 use Rattle.deb_version.specs.{Grammar.{is_version}, Keys.{version_key}, Order.{version_order}}
 use Rattle.listed.specs.Lists.{has}
-use Rattle.package_register.specs.{declared.register.Register.{Register}, Hashed.{hash_of, numbers_under, HasNone}}
+use Rattle.package_register.specs.declared.register.Register.{Register}
+use Rattle.package_register.specs.Hashed.{hash_of, numbers_under, HasNone}
 
 -- the item has the name
 abbrev pub has_name : {X : Type 0} → (X → List ℕ) → List ℕ → X → Bool

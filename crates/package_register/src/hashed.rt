@@ -1,6 +1,7 @@
 //! Lists of numbers by hashes.
 ghost use Rattle.std.specs.Prelude.{◌≡◌, ◌∷◌, ◌++◌, [], length, IfOk, OnOk};
-ghost use Rattle.package_register.specs.Hashed.{numbers_of, numbers_under, with_number, HasNone, Puts};
+ghost use Rattle.package_register.specs.Hashed.{numbers_of, numbers_under, with_number, HasNone};
+ghost use Rattle.package_register.specs.Hashed.{Puts};
 
 use indexmap::IndexMap;
 use std::alloc::{AllocError, Global};

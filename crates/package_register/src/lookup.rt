@@ -1,6 +1,8 @@
 //! Items of a list, found by their names and versions.
-ghost use Rattle.std.specs.{Prelude.{◌≡◌, ◌<◌, ◌++◌, ◌∷◌, [], ℕ, List, length, filter, IfOk, OnOk}, List.{list_any}};
-ghost use Rattle.package_register.specs.{Numbers.{numbers_where, passes_at}, Registers.{has_name, is_version_of, IsRegisterOf}};
+ghost use Rattle.std.specs.Prelude.{◌≡◌, ◌<◌, ◌++◌, ◌∷◌, [], ℕ, List, length, filter, IfOk, OnOk};
+ghost use Rattle.std.specs.List.{list_any};
+ghost use Rattle.package_register.specs.Numbers.{numbers_where, passes_at};
+ghost use Rattle.package_register.specs.Registers.{has_name, is_version_of, IsRegisterOf};
 
 use crate::register::{Candidates, Register};
 use deb_version::{Named, Version};

@@ -3,9 +3,12 @@
 //! It may give more numbers than are asked for, but never fewer: two names may have one hash, so
 //! the caller tests what the numbers stand for. So no text is kept, and a number that is found
 //! stays found, however the register grows.
-ghost use Rattle.std.specs.{Prelude.{◌≡◌, ◌≤◌, ◌++◌, true, false, length, IfOk, OnOk}, Option.{option_copied}};
+ghost use Rattle.std.specs.Prelude.{◌≡◌, ◌≤◌, ◌++◌, true, false, length, IfOk, OnOk};
+ghost use Rattle.std.specs.Option.{option_copied};
 ghost use Rattle.deb_version.specs.Grammar.{is_version};
-ghost use Rattle.package_register.specs.{Hashed.{hash_of, Puts}, Registers.{numbers_named, package_key, AreCandidates, Grows, IsBlank, IsFound}};
+ghost use Rattle.package_register.specs.Hashed.{hash_of, Puts};
+ghost use Rattle.package_register.specs.Registers.{numbers_named, package_key, AreCandidates};
+ghost use Rattle.package_register.specs.Registers.{Grows, IsBlank, IsFound};
 
 use crate::hashed::NumbersByHash;
 use crate::keys::{hash_of, key_of};

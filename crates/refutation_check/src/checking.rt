@@ -4,7 +4,8 @@
 //! itself.
 ghost use Rattle.std.specs.{Prelude.{IfOk, IsTrue, ◌↔◌, length}, Bool.{OnTrue}};
 ghost use Rattle.row_book.specs.{Book.{repository_of, Sound}, Needs.{NeedsFit}};
-ghost use Rattle.search_terms.specs.{Closure.{InRange}, Derives.{Derives}, Form.{form}, Laws.{HasNoSolution}};
+ghost use Rattle.search_terms.specs.{Closure.{InRange}, Derives.{Derives}, Form.{form}};
+ghost use Rattle.search_terms.specs.Laws.{HasNoSolution};
 
 use crate::derivation::derives;
 use crate::formula::form_of;

@@ -1,6 +1,9 @@
 //! The closure of signed classes, and whether it clashes.
-ghost use Rattle.std.specs.Prelude.{◌≡◌, ◌+◌, ◌*◌, ◌<◌, ℕ, true, Bool, IfOk, IsTrue, ◌↔◌, All, ◌++◌, length, map};
-ghost use Rattle.search_terms.specs.{declared.literals.Literal.{Literal}, Closure.{negation, IsUnitClosed, InRange, HasGiven, IsClosure, Clashes}};
+ghost use Rattle.std.specs.Prelude.{◌≡◌, ◌+◌, ◌*◌, ◌<◌, ℕ, true, Bool, IfOk, IsTrue, ◌↔◌, All};
+ghost use Rattle.std.specs.Prelude.{◌++◌, length, map};
+ghost use Rattle.search_terms.specs.declared.literals.Literal.{Literal};
+ghost use Rattle.search_terms.specs.Closure.{negation, IsUnitClosed, InRange, HasGiven, IsClosure};
+ghost use Rattle.search_terms.specs.Closure.{Clashes};
 ghost use Rattle.search_terms.specs.Marks.{is_marked, IsWithin, HasBoth, HasClash};
 
 use crate::flags::{close, is_marked, is_some_refuted};

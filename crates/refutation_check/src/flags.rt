@@ -1,6 +1,9 @@
 //! Marks as flags, and unit steps by scanning the formula.
-ghost use Rattle.std.specs.{Prelude.{◌≡◌, ◌+◌, ◌*◌, ℕ, not, ◌&&◌, find, true, Bool, IfNone, IfSome, Any, Contains, All, ◌++◌, length}, List.{list_any}};
-ghost use Rattle.search_terms.specs.{declared.literals.Literal.{Literal}, Closure.{negation, is_same, forces, is_refuted, IsUnitClosed, InRange}};
+ghost use Rattle.std.specs.Prelude.{◌≡◌, ◌+◌, ◌*◌, ℕ, not, ◌&&◌, find, true, Bool, IfNone, IfSome};
+ghost use Rattle.std.specs.{Prelude.{Any, Contains, All, ◌++◌, length}, List.{list_any}};
+ghost use Rattle.search_terms.specs.declared.literals.Literal.{Literal};
+ghost use Rattle.search_terms.specs.Closure.{negation, is_same, forces, is_refuted, IsUnitClosed};
+ghost use Rattle.search_terms.specs.Closure.{InRange};
 ghost use Rattle.search_terms.specs.Marks.{flag_place, is_marked, IsForced, IsWithin};
 
 use search_terms::{Literal, LiteralList};

@@ -1,6 +1,6 @@
 -- Restrictions are read as they are written.
-use Rattle.std.proofs.Common.{◌≡◌, ℕ, Bool, true, false, cond, ◌⊎◌, inl, inr, List, [], ◌∷◌, ◌++◌, Option, Some, None, take, drop, reverse, refl, sym, ap, ◌∙◌, subst}
-use Rattle.std.proofs.{lemmas.Option.{none-some, same_Some, cond_some}, lemmas.Slice.Eq.{bytes_eq-Decides}, lemmas.List.{take-append-drop}}
+use Rattle.std.proofs.Common.{◌≡◌, ℕ, Bool, true, false, cond, ◌⊎◌, inl, inr, List, [], ◌∷◌, ◌++◌, Option, Some, None, take, drop, reverse, refl, sym, ap, ◌∙◌}
+use Rattle.std.proofs.{Common.{subst}, lemmas.Option.{none-some, same_Some, cond_some}, lemmas.Slice.Eq.{bytes_eq-Decides}, lemmas.List.{take-append-drop}}
 use Rattle.std.specs.{Prelude.{codes}, List.{list_all, prefix_len}, Option.{option_map, option_and_then}, Str.{bytes_eq}}
 use Rattle.listed.proofs.Lists.{same_bytes}
 use Rattle.deb_version.specs.Grammar.{is_version, is_upstream_byte}
@@ -9,7 +9,8 @@ use Rattle.relation_fields.specs.declared.relations.Bound.{Bound}
 use Rattle.relation_fields.specs.Texts.{is_white_byte, is_white, trim_start, trim_both, behind_byte, before_byte, is_operator_byte}
 use Rattle.relation_fields.specs.{Grammar.{op_of, bound_at, bound_of, in_parentheses, restriction_of}, Spelling.{SpellsOp, SpellsRestriction}}
 use Rattle.relation_fields.proofs.Parts.{BoundParts, restriction_apart, restriction_of_parts}
-use Rattle.relation_fields.proofs.Fronts.{stops, front_passes, front_taken, front_left, list_all-reverse, trim_start-white, trim_start-stops, trim_start-joined, trim_both-around, trim_both-in}
+use Rattle.relation_fields.proofs.Fronts.{stops, front_passes, front_taken, front_left, list_all-reverse, trim_start-white, trim_start-stops, trim_start-joined}
+use Rattle.relation_fields.proofs.Fronts.{trim_both-around, trim_both-in}
 use Rattle.relation_fields.proofs.Bytes.{stops-from_all, stops-append, fails_at_space, version_no_space, version_no_operator, version_bytes}
 use Rattle.relation_fields.proofs.Ends.{behind_byte-cons, before_byte-push, begins, ends}
 

@@ -1,13 +1,14 @@
 -- Which bytes may stand where.
-use Rattle.std.proofs.Common.{◌≡◌, ℕ, ◌+◌, ◌-◌, ◌==◌, Bool, true, false, not, ◌&&◌, ◌||◌, inl, inr, List, [], ◌∷◌, ◌++◌, Some, None, length, take, drop, reverse, get_or, refl, sym, ap, ◌∙◌, arith}
-use Rattle.std.proofs.lemmas.Grind.{common_steps}
+use Rattle.std.proofs.Common.{◌≡◌, ℕ, ◌+◌, ◌-◌, ◌==◌, Bool, true, false, not, ◌&&◌, ◌||◌, inl, inr, List, [], ◌∷◌, ◌++◌, Some, None, length, take, drop}
+use Rattle.std.proofs.{Common.{reverse, get_or, refl, sym, ap, ◌∙◌, arith}, lemmas.Grind.{common_steps}}
 use Rattle.std.proofs.lemmas.Bool.{and_parts, and_from, or_cases, or_left, eqb-true, cases_Bool, cases_lt, both_ways, cond-true, cond-false}
 use Rattle.std.proofs.{lemmas.List.{take_all}, lemmas.List.Sums.{split_at_first, passes_at_first}, lemmas.List.Folds.{list_all-append}}
 use Rattle.std.specs.{List.{list_all, list_any, before_first, after_first, before_last, after_last, position_or_len}, Char.{is_ascii_digit}}
 use Rattle.std.specs.Option.{option_map_or}
 use Rattle.listed.proofs.Lists.{all_weaker}
 use Rattle.deb_version.specs.Names.{is_name_byte}
-use Rattle.deb_version.specs.Grammar.{is_colon, is_hyphen, epoch_of, behind_epoch, upstream_in, revision_in, upstream_of, revision_of, is_filled, is_epoch, is_revision_byte, is_upstream_byte, is_upstream, is_revision, is_version}
+use Rattle.deb_version.specs.Grammar.{is_colon, is_hyphen, epoch_of, behind_epoch, upstream_in, revision_in, upstream_of, revision_of, is_filled, is_epoch}
+use Rattle.deb_version.specs.Grammar.{is_revision_byte, is_upstream_byte, is_upstream, is_revision, is_version}
 use Rattle.relation_fields.specs.Texts.{is_white_byte, is_operator_byte}
 use Rattle.relation_fields.proofs.Fronts.{stops, list_all-reverse, end_dropped, end_taken}
 

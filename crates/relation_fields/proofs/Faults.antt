@@ -1,5 +1,6 @@
 -- What a whole field says, and its first fault, by how its elements are written.
-use Rattle.std.proofs.Common.{◌≡◌, ℕ, ◌+◌, ◌≤◌, nat_lt, Bool, true, false, cond, not, inl, inr, List, [], ◌∷◌, Option, Some, None, Result, Ok, Err, length, get_or, refl, sym, ◌∙◌, subst, arith}
+use Rattle.std.proofs.Common.{◌≡◌, ℕ, ◌+◌, ◌≤◌, nat_lt, Bool, true, false, cond, not, inl, inr, List, [], ◌∷◌, Option, Some, None, Result, Ok, Err, length}
+use Rattle.std.proofs.Common.{get_or, refl, sym, ◌∙◌, subst, arith}
 use Rattle.std.proofs.{lemmas.Bool.{and_parts, and_cases, not-true, not-false, not_from_false, false≢true, ltb-false}, lemmas.Option.{none-some}}
 use Rattle.std.proofs.{lemmas.List.Quantifiers.{position-Some}, lemmas.List.Sums.{fails_before_first, list_all-from_AllPass}}
 use Rattle.std.specs.{Prelude.{IfOk, OnOk, IfErr}, List.{list_all, position, position_or_len, filter, filter_map, AllZip}, Option.{is_none, option_map}}

@@ -1,15 +1,17 @@
 -- Atoms, alternatives and provides are read as they are written.
-use Rattle.std.proofs.Common.{◌≡◌, ℕ, Bool, true, false, cond, not, ◌&&◌, ◌==◌, List, [], ◌∷◌, ◌++◌, Option, Some, None, take, drop, reverse, refl, sym, ap, ◌∙◌, subst}
-use Rattle.std.proofs.{lemmas.Bool.{and_parts, and_from, false≢true}, lemmas.Option.{none-some, same_Some}, lemmas.List.{take-append-drop, reverse-append}}
+use Rattle.std.proofs.Common.{◌≡◌, ℕ, Bool, true, false, cond, not, ◌&&◌, ◌==◌, List, [], ◌∷◌, ◌++◌, Option, Some, None, take, drop, reverse, refl, sym, ap}
+use Rattle.std.proofs.{Common.{◌∙◌, subst}, lemmas.Bool.{and_parts, and_from, false≢true}, lemmas.Option.{none-some, same_Some}}
+use Rattle.std.proofs.lemmas.List.{take-append-drop, reverse-append}
 use Rattle.std.specs.{List.{list_all, prefix_len, take_while, filter_map, cons_option, AllZip}, Option.{is_some, option_map, option_map_or, option_and_then}}
 use Rattle.deb_version.specs.Names.{is_name, is_name_byte, has_first}
 use Rattle.relation_fields.specs.{declared.relations.Op.{Op}, declared.relations.Op.TheVariants.{Earlier, EarlierEqual, Exactly, LaterEqual, Later}}
 use Rattle.relation_fields.specs.{declared.relations.Bound.{Bound}, declared.relations.Atom.{Atom}, declared.relations.Provide.{Provide}}
 use Rattle.relation_fields.specs.Texts.{is_white_byte, trim_start, trim_both, behind_byte, is_architecture_byte, pieces}
-use Rattle.relation_fields.specs.Grammar.{restriction_of, begins_architecture, is_architecture, name_at, behind_name, qualifier_at, behind_qualifier, atom_at, atom_of, alternatives_of, version_at, provide_at, provide_of}
+use Rattle.relation_fields.specs.Grammar.{restriction_of, begins_architecture, is_architecture, name_at, behind_name, qualifier_at, behind_qualifier, atom_at}
+use Rattle.relation_fields.specs.Grammar.{atom_of, alternatives_of, version_at, provide_at, provide_of}
 use Rattle.relation_fields.specs.Spelling.{SpellsRestriction, SpellsQualifier, SpellsAtom, SpellsAlternatives, SpellsProvide, Reads}
-use Rattle.relation_fields.proofs.Fronts.{stops, front_passes, front_taken, front_left, trim_start-white, trim_start-stops, trim_start-joined, trim_both-around, trim_both-in}
-use Rattle.relation_fields.proofs.{Bytes.{stops-append, name_no_space}, Ends.{behind_byte-cons, behind_byte-stops, begins}}
+use Rattle.relation_fields.proofs.Fronts.{stops, front_passes, front_taken, front_left, trim_start-white, trim_start-stops, trim_start-joined, trim_both-around}
+use Rattle.relation_fields.proofs.{Fronts.{trim_both-in}, Bytes.{stops-append, name_no_space}, Ends.{behind_byte-cons, behind_byte-stops, begins}}
 use Rattle.relation_fields.proofs.Parts.{atom_apart, atom_of_parts, restriction_apart}
 use Rattle.relation_fields.proofs.Bounds.{bind_some, map_some, white_stops, restriction_read, restriction_spelled}
 

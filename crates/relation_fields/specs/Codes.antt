@@ -1,7 +1,10 @@
--- The codes of atoms, by which an equation between lists of atoms has one proof at most.
+-- Codes of atoms. By them an equation between lists of atoms is shown to have one proof at most.
 use Rattle.std.specs.Prelude.{◌≡◌, ℕ, Bool, true, false, List, Option, Some, None, refl}
-use Rattle.std.specs.Coded.{Coded, Coded-set, code_by, coded_list, coded_option, coded_bool, coded_ℕ, coded×}
-use Rattle.relation_fields.specs.{declared.relations.Op.{Op}, declared.relations.Op.TheVariants.{Earlier, EarlierEqual, Exactly, LaterEqual, Later}}
+use Rattle.std.specs.Coded.{Coded, Coded-set, code_by, coded_list, coded_option, coded_bool}
+use Rattle.std.specs.Coded.{coded_ℕ, coded×}
+use Rattle.relation_fields.specs.declared.relations.Op.{Op}
+use Rattle.relation_fields.specs.declared.relations.Op.TheVariants.{Earlier, EarlierEqual, Exactly}
+use Rattle.relation_fields.specs.declared.relations.Op.TheVariants.{LaterEqual, Later}
 use Rattle.relation_fields.specs.{declared.relations.Bound.{Bound}, declared.relations.Atom.{Atom}}
 
 abbrev op_to : Op → Option (Option (Option Bool))

@@ -1,6 +1,7 @@
 -- The elements of many packages; equal ones are kept once.
 use Rattle.std.specs.Prelude.{ℕ, ◌<◌, ◌^◌, List, length, vec_len, vec_capacity}
-use Rattle.relation_fields.specs.{declared.relations.Atom.{Atom}, declared.shared.SharedElements.{SharedElements}, Shared.{marked}}
+use Rattle.relation_fields.specs.declared.relations.Atom.{Atom}
+use Rattle.relation_fields.specs.{declared.shared.SharedElements.{SharedElements}, Shared.{marked}}
 
 -- the elements in their order
 abbrev pub elements_of : SharedElements → List (List Atom)

@@ -1,6 +1,7 @@
 -- What a whole relation field says: Debian Policy 7.1. Its elements are between commas, 44, and are
 -- numbered from 1.
-use Rattle.std.specs.{Prelude.{ℕ, ◌+◌, Bool, not, ◌&&◌, Option, List}, List.{filter, filter_map, position}, Option.{is_none, option_map}}
+use Rattle.std.specs.Prelude.{ℕ, ◌+◌, Bool, not, ◌&&◌, Option, List}
+use Rattle.std.specs.{List.{filter, filter_map, position}, Option.{is_none, option_map}}
 use Rattle.relation_fields.specs.Texts.{is_white, pieces}
 
 abbrev pub elements : List ℕ → List (List ℕ)

@@ -1,13 +1,19 @@
 -- What an element of a relation field says: Debian Policy 7.1, without its architecture and profile
 -- restrictions, and deb-control(5) on qualifiers. Each reading is of a whole text, and gives
 -- nothing if the text is outside the grammar.
-use Rattle.std.specs.Prelude.{ℕ, Bool, true, false, ◌&&◌, ◌||◌, if◌then◌else◌, Option, Some, None, List, [], ◌∷◌, drop, codes}
-use Rattle.std.specs.{Char.{is_ascii_digit, is_ascii_lowercase}, List.{list_all, take_while, prefix_len, filter_map}}
+use Rattle.std.specs.Prelude.{ℕ, Bool, true, false, ◌&&◌, ◌||◌, if◌then◌else◌, Option, Some, None}
+use Rattle.std.specs.Prelude.{List, [], ◌∷◌, drop, codes}
+use Rattle.std.specs.Char.{is_ascii_digit, is_ascii_lowercase}
+use Rattle.std.specs.List.{list_all, take_while, prefix_len, filter_map}
 use Rattle.std.specs.{Option.{is_some, option_map, option_map_or, option_and_then}, Str.{bytes_eq}}
 use Rattle.deb_version.specs.{Names.{is_name, is_name_byte}, Grammar.{is_version}}
-use Rattle.relation_fields.specs.{declared.relations.Op.{Op}, declared.relations.Op.TheVariants.{Earlier, EarlierEqual, Exactly, LaterEqual, Later}}
-use Rattle.relation_fields.specs.{declared.relations.Bound.{Bound}, declared.relations.Atom.{Atom}, declared.relations.Provide.{Provide}}
-use Rattle.relation_fields.specs.Texts.{trim_start, trim_both, behind_byte, before_byte, pieces, is_architecture_byte, is_operator_byte}
+use Rattle.relation_fields.specs.declared.relations.Op.{Op}
+use Rattle.relation_fields.specs.declared.relations.Op.TheVariants.{Earlier, EarlierEqual, Exactly}
+use Rattle.relation_fields.specs.declared.relations.Op.TheVariants.{LaterEqual, Later}
+use Rattle.relation_fields.specs.{declared.relations.Bound.{Bound}, declared.relations.Atom.{Atom}}
+use Rattle.relation_fields.specs.declared.relations.Provide.{Provide}
+use Rattle.relation_fields.specs.Texts.{trim_start, trim_both, behind_byte, before_byte, pieces}
+use Rattle.relation_fields.specs.Texts.{is_architecture_byte, is_operator_byte}
 
 -- the operators, and the two deprecated ones: `<` is read as `<=`, and `>` as `>=`
 unfoldable pub op_of : List ℕ → Option Op

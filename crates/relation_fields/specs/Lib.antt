@@ -7,3 +7,5 @@ pub mod Meeting
 pub mod Shared
 pub mod Elements
 pub mod Codes
+-- named here too, so that an attribute that cites it fits in a line
+pub use Rattle.relation_fields.specs.Grammar.{behind_qualifier}

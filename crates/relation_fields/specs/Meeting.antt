@@ -1,12 +1,18 @@
 -- When a package meets an atom: Debian Policy 7.1, and 7.5 on provides: a provide without a version
 -- meets no atom with a restriction. Some qualifiers are ignored in every field, and any other
 -- matches nothing. That is this repository's own choice, for an index of one architecture.
-use Rattle.std.specs.{Prelude.{ℕ, Bool, true, false, ◌&&◌, ◌||◌, Option, List, codes}, List.{list_any}, Option.{option_map_or}, Str.{bytes_eq}}
-use Rattle.std.specs.{declared.cmp.Ordering.{Ordering}, Ordering.{is_lt, is_le, is_eq, is_ge, is_gt}}
+use Rattle.std.specs.Prelude.{ℕ, Bool, true, false, ◌&&◌, ◌||◌, Option, List, codes}
+use Rattle.std.specs.{List.{list_any}, Option.{option_map_or}, Str.{bytes_eq}}
+use Rattle.std.specs.declared.cmp.Ordering.{Ordering}
+use Rattle.std.specs.Ordering.{is_lt, is_le, is_eq, is_ge, is_gt}
 use Rattle.deb_version.specs.Order.{version_order}
-use Rattle.relation_fields.specs.{declared.relations.Op.{Op}, declared.relations.Op.TheVariants.{Earlier, EarlierEqual, Exactly, LaterEqual, Later}}
-use Rattle.relation_fields.specs.{declared.relations.Bound.{Bound}, declared.relations.Atom.{Atom}, declared.relations.Provide.{Provide}}
-use Rattle.relation_fields.specs.{declared.packages.Home.{Home}, declared.packages.PackageFacts.{PackageFacts}}
+use Rattle.relation_fields.specs.declared.relations.Op.{Op}
+use Rattle.relation_fields.specs.declared.relations.Op.TheVariants.{Earlier, EarlierEqual, Exactly}
+use Rattle.relation_fields.specs.declared.relations.Op.TheVariants.{LaterEqual, Later}
+use Rattle.relation_fields.specs.{declared.relations.Bound.{Bound}, declared.relations.Atom.{Atom}}
+use Rattle.relation_fields.specs.declared.relations.Provide.{Provide}
+use Rattle.relation_fields.specs.declared.packages.Home.{Home}
+use Rattle.relation_fields.specs.declared.packages.PackageFacts.{PackageFacts}
 
 -- what each operator wants of the order of a version and the restriction's version
 abbrev pub wants : Op → Ordering → Bool

@@ -1,5 +1,6 @@
--- Lists that are kept once, and marks in their place.
-use Rattle.std.specs.{Prelude.{◌≡◌, ℕ, ◌<◌, true, List, [], ◌∷◌, ◌++◌, map, length, slice_index_or}, Coded.{Coded-set, coded_bool, le_prop}}
+-- Lists that are each kept once. A mark stands for a list: it is the place of that list.
+use Rattle.std.specs.Prelude.{◌≡◌, ℕ, ◌<◌, true, List, [], ◌∷◌, ◌++◌, map, length, slice_index_or}
+use Rattle.std.specs.Coded.{Coded-set, coded_bool, le_prop}
 use Rattle.std.proofs.Common.{◌∙◌, append_assoc, ap, refl, sym}
 use Rattle.listed.specs.Lists.{has}
 

@@ -1,12 +1,16 @@
 -- How relations are written: Debian Policy 7.1, without its architecture and profile restrictions,
 -- and with the two deprecated operators `<` and `>`. Each relation says of a text that it is one
 -- way of writing a value.
-use Rattle.std.specs.{Prelude.{◌≡◌, ◌<◌, ◌+◌, true, false, ◌⊎◌, ◌↔◌, ℕ, Option, Some, None, List, [], ◌∷◌, ◌++◌, length, slice_index_or, codes}, List.{AllZip}}
+use Rattle.std.specs.Prelude.{◌≡◌, ◌<◌, ◌+◌, true, false, ◌⊎◌, ◌↔◌, ℕ, Option, Some, None, List, []}
+use Rattle.std.specs.{Prelude.{◌∷◌, ◌++◌, length, slice_index_or, codes}, List.{AllZip}}
 use Rattle.std.specs.Option.{option_map}
 use Rattle.deb_version.specs.{Names.{is_name}, Grammar.{is_version}}
-use Rattle.relation_fields.specs.{declared.relations.Op.{Op}, declared.relations.Op.TheVariants.{Earlier, EarlierEqual, Exactly, LaterEqual, Later}}
-use Rattle.relation_fields.specs.{declared.relations.Bound.{Bound}, declared.relations.Atom.{Atom}, declared.relations.Provide.{Provide}}
-use Rattle.relation_fields.specs.{Texts.{is_white, pieces}, Grammar.{is_architecture}, Fields.{elements, written}}
+use Rattle.relation_fields.specs.declared.relations.Op.{Op}
+use Rattle.relation_fields.specs.declared.relations.Op.TheVariants.{Earlier, EarlierEqual, Exactly}
+use Rattle.relation_fields.specs.declared.relations.Op.TheVariants.{LaterEqual, Later}
+use Rattle.relation_fields.specs.{declared.relations.Bound.{Bound}, declared.relations.Atom.{Atom}}
+use Rattle.relation_fields.specs.{declared.relations.Provide.{Provide}, Texts.{is_white, pieces}}
+use Rattle.relation_fields.specs.{Grammar.{is_architecture}, Fields.{elements, written}}
 
 -- the ways of writing an operator, with the old `<` and `>`
 abbrev pub SpellsOp : List ℕ → Op → Type 0
@@ -16,8 +20,8 @@ SpellsOp text Exactly = text ≡ codes "="
 SpellsOp text LaterEqual = (text ≡ codes ">=") ⊎ (text ≡ codes ">")
 SpellsOp text Later = text ≡ codes ">>"
 
--- A restriction, or nothing: an operator and a version in parentheses, each with white space around
--- it.
+-- A restriction, or nothing: an operator and a version in parentheses. There may be white space
+-- around each.
 abbrev pub SpellsRestriction : List ℕ → Option Bound → Type 0
 SpellsRestriction text None = text ≡ []
 SpellsRestriction text (Some bound) = (front operator middle back : List ℕ)

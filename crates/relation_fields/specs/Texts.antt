@@ -1,10 +1,14 @@
 -- Texts in a relation field, and the pieces that they are cut into.
-use Rattle.std.specs.Prelude.{ℕ, ◌-◌, Bool, ◌&&◌, ◌||◌, ◌==◌, nat_lt, if◌then◌else◌, Option, Some, None, List, [], length, take, drop}
-use Rattle.std.specs.{Char.{is_ascii_digit, is_ascii_lowercase}, List.{list_all, prefix_len, suffix_len, slice_index, slice_split}}
+use Rattle.std.specs.Prelude.{ℕ, ◌-◌, Bool, ◌&&◌, ◌||◌, ◌==◌, nat_lt, if◌then◌else◌, Option, Some}
+use Rattle.std.specs.Prelude.{None, List, [], length, take, drop}
+use Rattle.std.specs.Char.{is_ascii_digit, is_ascii_lowercase}
+use Rattle.std.specs.List.{list_all, prefix_len, suffix_len, slice_index, slice_split}
 use Rattle.deb_version.specs.Names.{is_name_byte}
 pub use Rattle.listed.specs.Texts.{is_white_byte}
 unfoldable pub use Rattle.listed.specs.Texts.{trim_both, trim_end, trim_start}
-use Rattle.relation_fields.specs.{declared.texts.ByteKind.{ByteKind}, declared.texts.ByteKind.TheVariants.{White, Name, Qualifier, Operator}}
+use Rattle.relation_fields.specs.declared.texts.ByteKind.{ByteKind}
+use Rattle.relation_fields.specs.declared.texts.ByteKind.TheVariants.{White, Name, Qualifier}
+use Rattle.relation_fields.specs.declared.texts.ByteKind.TheVariants.{Operator}
 
 -- no byte but white space
 abbrev pub is_white : List ℕ → Bool

@@ -1,6 +1,9 @@
 //! Reading an atom.
 ghost use Rattle.std.specs.{Prelude.{◌≡◌, true, IfOk}, Option.{option_copied, option_map_or}};
-ghost use Rattle.relation_fields.specs.Grammar.{op_of, bound_at, bound_of, in_parentheses, restriction_of, is_architecture, name_at, behind_name, qualifier_at, behind_qualifier, atom_of};
+ghost use Rattle.relation_fields.specs.Grammar.{op_of, bound_at, bound_of, in_parentheses};
+ghost use Rattle.relation_fields.specs.Grammar.{restriction_of, is_architecture, name_at};
+ghost use Rattle.relation_fields.specs.Grammar.{behind_name, qualifier_at, behind_qualifier};
+ghost use Rattle.relation_fields.specs.Grammar.{atom_of};
 
 use crate::grammar::is_architecture;
 use crate::relations::{Atom, Bound, Op};
@@ -42,7 +45,7 @@ fn split_name(text: &[u8]) -> (&[u8], &[u8])
 }
 
 // The qualifier, if there is a colon at the front, and what follows it.
-#[tactic(auto, unfolding(crate::specs::Grammar::qualifier_at, crate::specs::Grammar::behind_qualifier))]
+#[tactic(auto, unfolding(crate::specs::Grammar::qualifier_at, crate::specs::behind_qualifier))]
 fn split_qualifier(text: &[u8]) -> (Option<&[u8]>, &[u8])
     ensures qualifier { option_copied result.0 ≡ qualifier_at text.now }
     ensures behind { result.1.now ≡ behind_qualifier text.now }

@@ -1,5 +1,6 @@
 //! Reading the elements of a relation field.
-ghost use Rattle.std.specs.{Prelude.{◌≡◌, ◌++◌, [], IfOk, List, ℕ, Option}, Option.{option_to_list}};
+ghost use Rattle.std.specs.Prelude.{◌≡◌, ◌++◌, [], IfOk, List, ℕ, Option};
+ghost use Rattle.std.specs.Option.{option_to_list};
 ghost use Rattle.relation_fields.specs.Grammar.{atom_of, alternatives_of, provide_at, provide_of};
 
 use crate::atom_lists::AtomList;

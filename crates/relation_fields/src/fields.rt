@@ -1,7 +1,10 @@
 //! Reading relation fields.
 ghost use Rattle.std.specs.Prelude.{◌≡◌, ◌<◌, length, None, Some, IfOk, IfErr, OnOk};
-ghost use Rattle.relation_fields.specs.{Grammar.{atom_of, alternatives_of, provide_of}, Fields.{first_outside, said_in}};
-ghost use Rattle.relation_fields.specs.{Spelling.{SpellsEach, SpellsAlternatives, SpellsAtom, SpellsProvide, IsFirstFaultyElement}, Refusals.{OnFaultyElement}};
+ghost use Rattle.relation_fields.specs.Grammar.{atom_of, alternatives_of, provide_of};
+ghost use Rattle.relation_fields.specs.Fields.{first_outside, said_in};
+ghost use Rattle.relation_fields.specs.Spelling.{SpellsEach, SpellsAlternatives, SpellsAtom};
+ghost use Rattle.relation_fields.specs.Spelling.{SpellsProvide, IsFirstFaultyElement};
+ghost use Rattle.relation_fields.specs.Refusals.{OnFaultyElement};
 
 use crate::atom_lists::AtomList;
 use crate::elements::{AtomReader, ElementReader, NeedReader, ProvideReader};

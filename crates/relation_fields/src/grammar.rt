@@ -1,7 +1,10 @@
 //! The grammar of relations: the names of architectures, and laws.
 ghost use Rattle.std.specs.{Prelude.{◌≡◌}, List.{list_all}};
-ghost use Rattle.relation_fields.specs.{Texts.{is_architecture_byte}, Grammar.{alternatives_of, atom_of, provide_of, begins_architecture, is_architecture}};
-ghost use Rattle.relation_fields.specs.Spelling.{Reads, SpellsAlternatives, SpellsAtom, SpellsProvide};
+ghost use Rattle.relation_fields.specs.Texts.{is_architecture_byte};
+ghost use Rattle.relation_fields.specs.Grammar.{alternatives_of, atom_of, provide_of};
+ghost use Rattle.relation_fields.specs.Grammar.{begins_architecture, is_architecture};
+ghost use Rattle.relation_fields.specs.Spelling.{Reads, SpellsAlternatives, SpellsAtom};
+ghost use Rattle.relation_fields.specs.Spelling.{SpellsProvide};
 
 use crate::texts::{ByteKind, has_kind};
 

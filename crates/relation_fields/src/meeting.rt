@@ -1,6 +1,8 @@
 //! When a package meets an atom.
 ghost use Rattle.std.specs.{Prelude.{◌≡◌, true}, List.{list_any}, Option.{option_map_or}};
-ghost use Rattle.relation_fields.specs.Meeting.{wants, fits, is_always_ignored, is_home, is_ignored, is_met_by_name, fits_provided, is_provided_by, meets};
+ghost use Rattle.relation_fields.specs.Meeting.{wants, fits, is_always_ignored, is_home};
+ghost use Rattle.relation_fields.specs.Meeting.{is_ignored, is_met_by_name, fits_provided};
+ghost use Rattle.relation_fields.specs.Meeting.{is_provided_by, meets};
 
 use crate::packages::{Home, PackageFacts};
 use crate::relations::{Atom, Bound, Op, Provide};
@@ -14,11 +16,11 @@ impl Atom {
     /// qualifiers `any`, `native`, `all` and the name of the home are ignored; an atom or provide
     /// with any other matches nothing.
     #[tactic(auto, unfolding(crate::specs::Meeting::meets))]
-    pub fn met_by(&self, facts: &PackageFacts, home: &Home) -> bool
-        ensures { result ≡ meets self.now facts.now home.now }
+    pub fn met_by(&self, package: &PackageFacts, home: &Home) -> bool
+        ensures { result ≡ meets self.now «package».now home.now }
     {
         is_ignored(&self.qualifier, home)
-            && (self.is_met_by_name(facts) || self.is_met_by_provide(facts, home))
+            && (self.is_met_by_name(package) || self.is_met_by_provide(package, home))
     }
 
     // Whether the package has the atom's name, and a version that fits the restriction if there is

@@ -1,23 +1,24 @@
-//! Elements that many packages share.
+//! Elements of the relation fields of many packages. Equal ones are kept once, and shared.
 ghost use Rattle.relation_fields.specs.Shared.{AreMarked, AreMarked-prop};
 
 use crate::atom_lists::AtomList;
 use std::alloc::{AllocError, Global};
 
-/// Elements in their order; equal ones are kept once. Each has the mark of its list of
-/// alternatives.
+/// A list of elements. An element is a list of alternatives, and equal lists are kept once. The
+/// place of its list is the mark of an element.
 #[derive(Drop)]
 pub struct SharedElements {
     /// The lists of alternatives, in the order in which they first come.
     pub distinct: Vec<AtomList>,
-    /// For each element the place of its list.
+    /// For each element, in order, its mark: the place of its list in `distinct`.
     pub marks: Vec<u32>,
     ghost marked: { AreMarked distinct.items marks.items } by { AreMarked-prop
         distinct.items marks.items },
 }
 
 impl SharedElements {
-    ghost use Rattle.std.specs.Prelude.{◌≡◌, ◌∷◌, ◌++◌, ◌<◌, [], length, slice_index_or, OnOk, OnErr};
+    ghost use Rattle.std.specs.Prelude.{◌≡◌, ◌∷◌, ◌++◌, ◌<◌, [], length, slice_index_or, OnOk};
+    ghost use Rattle.std.specs.Prelude.{OnErr};
     ghost use Rattle.relation_fields.specs.Elements.{elements_of, HasRoom};
 
     /// No elements.
@@ -45,8 +46,8 @@ impl SharedElements {
         self.marks.reserve(1)
     }
 
-    /// Appends a new element, which is none of the lists there. Allocates only if no room was
-    /// reserved.
+    /// Appends an element whose list is not there yet, and the list with it. Memory is taken only
+    /// if no room was reserved.
     pub fn push(&mut self, said: AtomList) -> Result<(), AllocError>
         ensures elements { OnOk result (elements_of self.new ≡ elements_of self.old ++ said ∷ []) }
         ensures distinct { OnOk result (self.new.distinct.items
@@ -61,7 +62,7 @@ impl SharedElements {
         Ok(())
     }
 
-    /// Appends an element whose list has this place.
+    /// Appends an element whose list is there already, at this place.
     pub fn push_again(&mut self, place: usize) -> Result<(), AllocError>
         requires { place < length self.old.distinct.items }
         ensures elements { OnOk result (elements_of self.new

@@ -2,9 +2,11 @@
 //!
 //! Their texts are found by a hash in a table that is in one piece, so an element takes no block of
 //! its own.
-ghost use Rattle.std.specs.{Prelude.{◌≡◌, ◌∷◌, ◌++◌, [], Some, IfOk, IfSome, OnOk}, Option.{option_to_list}};
+ghost use Rattle.std.specs.Prelude.{◌≡◌, ◌∷◌, ◌++◌, [], Some, IfOk, IfSome, OnOk};
+ghost use Rattle.std.specs.Option.{option_to_list};
 ghost use Rattle.list_table.specs.Hash.{hash_of_bytes};
-ghost use Rattle.relation_fields.specs.{Elements.{elements_of}, Shared.{none_behind, behind_both}, Grammar.{alternatives_of}};
+ghost use Rattle.relation_fields.specs.{Elements.{elements_of}, Shared.{none_behind, behind_both}};
+ghost use Rattle.relation_fields.specs.Grammar.{alternatives_of};
 
 use crate::atom_lists::AtomList;
 use crate::elements::{ElementReader, read_alternatives};
@@ -26,7 +28,8 @@ pub struct ElementTable {
 
 impl Model for ElementTable {
     ghost use Rattle.std.specs.Prelude.{◌≡◌, List, Some, map};
-    ghost use Rattle.relation_fields.specs.{Elements.{elements_of}, Grammar.{alternatives_of}, declared.relations.Atom.{Atom}};
+    ghost use Rattle.relation_fields.specs.{Elements.{elements_of}, Grammar.{alternatives_of}};
+    ghost use Rattle.relation_fields.specs.declared.relations.Atom.{Atom};
 
     ghost Value = { List (List Atom) };
 

@@ -1,6 +1,8 @@
 //! Cutting texts into pieces.
-ghost use Rattle.std.specs.{Prelude.{◌≡◌, ◌≤◌, ◌==◌, ◌∷◌, length, drop}, List.{prefix_len, position, take_while}, Option.{option_copied}};
-ghost use Rattle.relation_fields.specs.Texts.{is_white, behind_byte, before_byte, pieces, pieces_left, is_of_kind};
+ghost use Rattle.std.specs.Prelude.{◌≡◌, ◌≤◌, ◌==◌, ◌∷◌, length, drop};
+ghost use Rattle.std.specs.{List.{prefix_len, position, take_while}, Option.{option_copied}};
+ghost use Rattle.relation_fields.specs.Texts.{is_white, behind_byte, before_byte, pieces};
+ghost use Rattle.relation_fields.specs.Texts.{pieces_left, is_of_kind};
 
 use listed::is_white_byte;
 

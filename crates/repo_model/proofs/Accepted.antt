@@ -1,8 +1,8 @@
 -- What is known of the packages of an index without a fault: they are few, each has a package name and a version, and none
 -- is the package of an earlier one.
-use Rattle.std.proofs.Common.{◌≡◌, ℕ, ◌+◌, ◌≤◌, Bool, true, false, cond, List, [], ◌∷◌, ◌++◌, length, take, map, Option, Some, None, Result, Ok, Err, refl, sym, ap, ◌∙◌, subst, inl, inr, arith, length-append, append_assoc}
-use Rattle.std.proofs.{Math.Seq.{take-append_seam}, lemmas.List.{append-nil, length-map, map-append}, lemmas.List.Elements.{filter_map-append}}
-use Rattle.std.proofs.lemmas.Bool.Decides.{nat_tests}
+use Rattle.std.proofs.Common.{◌≡◌, ℕ, ◌+◌, ◌≤◌, Bool, true, false, cond, List, [], ◌∷◌, ◌++◌, length, take, map, Option, Some, None, Result, Ok, Err, refl, sym}
+use Rattle.std.proofs.{Common.{ap, ◌∙◌, subst, inl, inr, arith, length-append, append_assoc}, Math.Seq.{take-append_seam}}
+use Rattle.std.proofs.{lemmas.List.{append-nil, length-map, map-append}, lemmas.List.Elements.{filter_map-append}, lemmas.Bool.Decides.{nat_tests}}
 use Rattle.std.specs.{Prelude.{nat_le, find}, Option.{option_map}, Result.{result_ok}}
 use Rattle.deb_version.specs.{Names.{is_name}, Grammar.{is_version}}
 use Rattle.stanza_reader.specs.{Stanzas.{readings}, declared.stanza.RawStanza.{RawStanza}, declared.fault.StanzaFault.{StanzaFault}}
@@ -10,8 +10,9 @@ use Rattle.relation_fields.specs.declared.packages.PackageFacts.{PackageFacts}
 use Rattle.listed.specs.Lists.{In, here, there}
 use Rattle.listed.proofs.Lists.{In_append_cases, In_cases, In_none, find_none}
 use Rattle.repo_model.specs.Facts.{facts_of, is_same_package, AreNamedPackages}
-use Rattle.repo_model.specs.FirstFault.{first_present, own_fault, duplicate_fault, stanza_fault, reading_fault, stanzas_in, stanzas_of, fault_behind, faults_from, first_fault, home_of}
-use Rattle.repo_model.specs.{declared.fault.IndexFault.{IndexFault}, declared.fault.IndexFault.TheVariants.{Stanza, Duplicate, TooMany}, Limits.{most_packages}}
+use Rattle.repo_model.specs.FirstFault.{first_present, own_fault, duplicate_fault, stanza_fault, reading_fault, stanzas_in, stanzas_of, fault_behind}
+use Rattle.repo_model.specs.{FirstFault.{faults_from, first_fault, home_of}, declared.fault.IndexFault.{IndexFault}}
+use Rattle.repo_model.specs.{declared.fault.IndexFault.TheVariants.{Stanza, Duplicate, TooMany}, Limits.{most_packages}}
 use Rattle.repo_model.proofs.WellFormed.{none_of, facts_well_formed}
 
 -- none is the package of an earlier one

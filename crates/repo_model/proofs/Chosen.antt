@@ -1,10 +1,11 @@
 -- The numbers of the packages that pass a test, and the clause of an element by the packages that meet its alternatives.
-use Rattle.std.proofs.Common.{◌≡◌, ℕ, suc, ◌+◌, ◌<◌, ◌↔◌, ◌++◌, Bool, true, false, cond, List, [], ◌∷◌, length, get_or, filter, inl, inr, refl, sym, ap, subst, ◌∙◌, add-zero, zero-add, eqb, arith}
-use Rattle.std.proofs.{Math.Bool.{and-true, or-false}, lemmas.List.Kept.{AllPairs-from_increasing, Contains-dedup_nat, Contains-from_dedup}}
+use Rattle.std.proofs.Common.{◌≡◌, ℕ, suc, ◌+◌, ◌<◌, ◌↔◌, ◌++◌, Bool, true, false, cond, List, [], ◌∷◌, length, get_or, filter, inl, inr, refl, sym, ap, subst}
+use Rattle.std.proofs.{Common.{◌∙◌, add-zero, zero-add, eqb, arith}, Math.Bool.{and-true, or-false}}
+use Rattle.std.proofs.lemmas.List.Kept.{AllPairs-from_increasing, Contains-dedup_nat, Contains-from_dedup}
 use Rattle.std.proofs.{lemmas.List.Sorted.{Contains-permutation, IsPermutation-sym}, lemmas.Map.Keys.{IsStrictlyIncreasing-dedup}}
 use Rattle.std.specs.{List.{flat_map, range_with_len, Contains, AllPairs, dedup}, List.Sorted.{IsPermutation, IsSorted}, Ordering.{nat_cmp}, Str.{bytes_eq}}
-use Rattle.listed.proofs.Lists.{contains_in, in_contains, In_flat_cases, In_flat, In_cases, In_none, In_append_cases, In_append_left, In_append_right, any_from, any_cases, filter_same}
-use Rattle.listed.proofs.Orders.{ascending_filter, ascending_same}
+use Rattle.listed.proofs.Lists.{contains_in, in_contains, In_flat_cases, In_flat, In_cases, In_none, In_append_cases, In_append_left, In_append_right, any_from}
+use Rattle.listed.proofs.{Lists.{any_cases, filter_same}, Orders.{ascending_filter, ascending_same}}
 use Rattle.relation_fields.specs.{Meeting.{meets}, declared.packages.Home.{Home}, declared.packages.PackageFacts.{PackageFacts}, declared.relations.Atom.{Atom}}
 use Rattle.listed.specs.Lists.{Ascending, Inside, In, here, there}
 use Rattle.package_register.specs.Numbers.{if_so, numbers_from, numbers_where}

@@ -1,6 +1,7 @@
 -- Texts that end with a blank line, seen from their ends.
-use Rattle.std.proofs.Common.{◌≡◌, ℕ, ◌+◌, ◌-◌, ◌<◌, ◌≤◌, Bool, true, false, not, ◌&&◌, List, [], ◌∷◌, ◌++◌, length, take, get_or, reverse, refl, sym, ap, subst, ◌∙◌, append_assoc, arith}
-use Rattle.std.proofs.{lemmas.Grind.{common_steps}, lemmas.List.{reverse-append, reverse-reverse, take_more}, lemmas.Bool.{not-true, and_from, and_parts}}
+use Rattle.std.proofs.Common.{◌≡◌, ℕ, ◌+◌, ◌-◌, ◌<◌, ◌≤◌, Bool, true, false, not, ◌&&◌, List, [], ◌∷◌, ◌++◌, length, take, get_or, reverse, refl, sym, ap}
+use Rattle.std.proofs.{Common.{subst, ◌∙◌, append_assoc, arith}, lemmas.Grind.{common_steps}, lemmas.List.{reverse-append, reverse-reverse, take_more}}
+use Rattle.std.proofs.lemmas.Bool.{not-true, and_from, and_parts}
 use Rattle.std.specs.{Prelude.{if◌then◌else◌}, List.{before_first, list_all}}
 use Rattle.relation_fields.proofs.Fronts.{list_all-reverse}
 use Rattle.stanza_reader.specs.{Close.{is_ended, ends_blank, IsClosed}, Lines.{is_line_feed, is_blank_byte, is_blank, lines}}

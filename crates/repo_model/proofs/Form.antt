@@ -11,7 +11,8 @@ use Rattle.row_book.specs.Repository.{clauses_of, conflicts_of, against}
 use Rattle.listed.proofs.Orders.{ascending_filter}
 use Rattle.clause_pool.proofs.Order.{ordered_order}
 use Rattle.repo_model.proofs.Elements.{range_ascending}
-use Rattle.repo_model.proofs.Packages.{length_clauses, length_conflicts, clauses_at, clauses_past, conflicts_at, conflicts_past, literal_cases, clause_cases, against_cases, against_from, conflict_cases, conflict_by_name, conflict_by_first, conflict_by_second}
+use Rattle.repo_model.proofs.Packages.{length_clauses, length_conflicts, clauses_at, clauses_past, conflicts_at, conflicts_past, literal_cases, clause_cases}
+use Rattle.repo_model.proofs.Packages.{against_cases, against_from, conflict_cases, conflict_by_name, conflict_by_first, conflict_by_second}
 
 pub same_name : (a b : List ℕ) → bytes_eq a b ≡ true → bytes_eq b a ≡ true
 same_name a b e = (bytes_eq-Decides b a).1 (sym ((bytes_eq-Decides a b).0 e))

@@ -7,7 +7,8 @@ use Rattle.relation_fields.specs.{Meeting.{meets}, declared.packages.Home.{Home}
 use Rattle.row_book.specs.{Repository.{Healthy, Coinst, against}, Sets.{NumSet, Is, Hit}}
 use Rattle.listed.specs.Lists.{In}
 use Rattle.listed.proofs.Lists.{any_from, any_cases}
-use Rattle.repo_model.proofs.Packages.{length_clauses, literal_cases, literal_from, clause_cases, clause_from, against_cases, against_from, conflict_cases, conflict_by_name, conflict_by_first}
+use Rattle.repo_model.proofs.Packages.{length_clauses, literal_cases, literal_from, clause_cases, clause_from, against_cases, against_from, conflict_cases}
+use Rattle.repo_model.proofs.Packages.{conflict_by_name, conflict_by_first}
 
 -- a clause is hit exactly when its element is met
 hit_from : (home : Home) (stanzas : List PackageFacts) (I : NumSet) (element : List Atom) → ((n : ℕ) → Is I n → n < length stanzas) →

@@ -1,6 +1,6 @@
 -- What a pool gains, clause by clause and row by row.
-use Rattle.std.proofs.Common.{◌≡◌, ℕ, ◌+◌, ◌<◌, ◌≤◌, ◌++◌, List, [], ◌∷◌, length, get_or, map, take, inl, inr, refl, sym, ap, ap₂, subst, ◌∙◌, length-append, arith}
-use Rattle.std.proofs.{lemmas.Bool.{cases_lt}, lemmas.List.{get_or_push, map-append, take_more}}
+use Rattle.std.proofs.Common.{◌≡◌, ℕ, ◌+◌, ◌<◌, ◌≤◌, ◌++◌, List, [], ◌∷◌, length, get_or, map, take, inl, inr, refl, sym, ap, ap₂, subst, ◌∙◌, length-append}
+use Rattle.std.proofs.{Common.{arith}, lemmas.Bool.{cases_lt}, lemmas.List.{get_or_push, map-append, take_more}}
 use Rattle.std.specs.List.{flat_map}
 use Rattle.clause_pool.specs.{Interned.{Interned, clause_at, clauses_at, ids_at, row_at, Gains, IsIdOf, IsPool, Kept, OfPool}, Clauses.{in_row_order}}
 use Rattle.clause_pool.proofs.{Interned.{kept_same, kept_along, clauses_kept, kept_of_pool}, Order.{ordered_has}}

@@ -1,6 +1,7 @@
 -- The elements of packages by their marks.
-use Rattle.std.proofs.Common.{◌≡◌, ℕ, suc, ◌+◌, ◌<◌, ◌≤◌, ◌++◌, List, [], ◌∷◌, length, get_or, map, take, drop, inl, inr, refl, sym, ap, ap₂, subst, ◌∙◌, add-one, length-append, drop-cons, arith}
-use Rattle.std.proofs.{lemmas.List.{drop-map, get_or-map, length-map, map-append, take-map}, Math.Seq.{drop-append_seam, take-append_seam}}
+use Rattle.std.proofs.Common.{◌≡◌, ℕ, suc, ◌+◌, ◌<◌, ◌≤◌, ◌++◌, List, [], ◌∷◌, length, get_or, map, take, drop, inl, inr, refl, sym, ap, ap₂, subst, ◌∙◌}
+use Rattle.std.proofs.{Common.{add-one, length-append, drop-cons, arith}, lemmas.List.{drop-map, get_or-map, length-map, map-append, take-map}}
+use Rattle.std.proofs.Math.Seq.{drop-append_seam, take-append_seam}
 use Rattle.std.specs.List.{flat_map}
 use Rattle.clause_pool.specs.{Interned.{Interned, clause_at, clauses_at}, Lists.{InOrder}}
 use Rattle.listed.proofs.Lists.{has_In, In_map, In_place}

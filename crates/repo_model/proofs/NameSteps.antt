@@ -1,7 +1,7 @@
 -- Sorted names, each taken once.
-use Rattle.std.proofs.Common.{◌≡◌, ◌≢◌, ℕ, ◌<◌, ◌+◌, ◌-◌, true, false, ◌&&◌, nat_lt, List, [], ◌∷◌, ◌++◌, length, get_or, map, refl, sym, ap, subst, ◌∙◌, arith, inl, inr, Bor}
-use Rattle.std.proofs.{lemmas.Bool.{cases_Bool, cases_eq, and_from, and_parts, lt-ltb, ltb-true, false≢true}, lemmas.Slice.Eq.{bytes_eq-Decides}}
-use Rattle.std.proofs.{lemmas.Cmp.{nat_list_cmp_total}, lemmas.List.{get_or-map, length-map}}
+use Rattle.std.proofs.Common.{◌≡◌, ◌≢◌, ℕ, ◌<◌, ◌+◌, ◌-◌, true, false, ◌&&◌, nat_lt, List, [], ◌∷◌, ◌++◌, length, get_or, map, refl, sym, ap, subst, ◌∙◌, arith}
+use Rattle.std.proofs.{Common.{inl, inr, Bor}, lemmas.Bool.{cases_Bool, cases_eq, and_from, and_parts, lt-ltb, ltb-true, false≢true}}
+use Rattle.std.proofs.{lemmas.Slice.Eq.{bytes_eq-Decides}, lemmas.Cmp.{nat_list_cmp_total}, lemmas.List.{get_or-map, length-map}}
 use Rattle.std.proofs.lemmas.List.Sorted.{ranks_by, sorted_far, IsPermutation-map, IsPermutation-sym, Contains-permutation}
 use Rattle.std.specs.{List.Sorted.{IsPermutation, IsSorted}, Ordering.{nat_cmp, is_lt}, Cmp.Lexicographic.{slice_cmp}, Str.{bytes_eq}}
 use Rattle.clause_pool.specs.{Lists.{Before, InOrder}, Clauses.{comes_before, in_row_order}}

@@ -1,6 +1,6 @@
 -- Loops over the numbers of stanzas.
-use Rattle.std.proofs.Common.{◌≡◌, ℕ, zero, suc, ◌<◌, ◌+◌, Bool, true, false, cond, List, [], ◌∷◌, ◌++◌, length, get_or, map, filter, refl, sym, ap, ◌∙◌, add-one, zero-add, arith}
-use Rattle.std.proofs.{lemmas.List.{append-nil, get_or_default}, lemmas.List.FromFn.{map-range_with_len_more}}
+use Rattle.std.proofs.Common.{◌≡◌, ℕ, zero, suc, ◌<◌, ◌+◌, Bool, true, false, cond, List, [], ◌∷◌, ◌++◌, length, get_or, map, filter, refl, sym, ap, ◌∙◌}
+use Rattle.std.proofs.{Common.{add-one, zero-add, arith}, lemmas.List.{append-nil, get_or_default}, lemmas.List.FromFn.{map-range_with_len_more}}
 use Rattle.std.specs.List.{range_with_len}
 use Rattle.listed.proofs.Numbers.{range_more}
 use Rattle.relation_fields.specs.declared.packages.PackageFacts.{PackageFacts}

@@ -1,6 +1,7 @@
 -- Texts of which no front is closed.
-use Rattle.std.proofs.Common.{◌≡◌, ℕ, ◌+◌, ◌-◌, ◌<◌, ◌≤◌, true, false, ◌&&◌, ◌⊎◌, inl, inr, List, [], ◌∷◌, ◌++◌, length, take, drop, get_or, refl, sym, ap, ap₂, subst, ◌∙◌, append_assoc, take-append-drop, length-append, arith}
-use Rattle.std.proofs.{Math.Seq.{take-append-add}, lemmas.Bool.{cases_lt}, lemmas.List.{take_at, length-take-le}}
+use Rattle.std.proofs.Common.{◌≡◌, ℕ, ◌+◌, ◌-◌, ◌<◌, ◌≤◌, true, false, ◌&&◌, ◌⊎◌, inl, inr, List, [], ◌∷◌, ◌++◌, length, take, drop, get_or, refl, sym, ap, ap₂}
+use Rattle.std.proofs.{Common.{subst, ◌∙◌, append_assoc, take-append-drop, length-append, arith}, Math.Seq.{take-append-add}, lemmas.Bool.{cases_lt}}
+use Rattle.std.proofs.lemmas.List.{take_at, length-take-le}
 use Rattle.stanza_reader.specs.{Close.{IsClosed}, Lines.{is_line_feed}}
 use Rattle.stanza_reader.proofs.PartLemmas.{closed_texts_join}
 use Rattle.repo_model.specs.{Backward.{closes, is_last_blank, IsLastFeed, NoFeed}, Feeding.{IsOpen}}

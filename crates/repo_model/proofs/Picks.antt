@@ -1,5 +1,6 @@
 -- The stanzas whose flags are up, put one behind the other.
-use Rattle.std.proofs.Common.{◌≡◌, ℕ, ◌+◌, ◌≤◌, ◌<◌, Bool, true, false, cond, List, [], ◌∷◌, ◌++◌, length, get_or, drop, map, Option, Some, None, Ok, refl, sym, ap, ap₂, subst, ◌∙◌, add-one, append_assoc, drop-cons, length-append, arith}
+use Rattle.std.proofs.Common.{◌≡◌, ℕ, ◌+◌, ◌≤◌, ◌<◌, Bool, true, false, cond, List, [], ◌∷◌, ◌++◌, length, get_or, drop, map, Option, Some, None, Ok, refl, sym}
+use Rattle.std.proofs.Common.{ap, ap₂, subst, ◌∙◌, add-one, append_assoc, drop-cons, length-append, arith}
 use Rattle.std.proofs.lemmas.List.{append-nil, drop_all, length-map, map-append}
 use Rattle.std.specs.{Prelude.{nat_le, if◌then◌else◌}, Option.{option_or}}
 use Rattle.stanza_reader.specs.{Blanking.{picked}, Stanzas.{readings, stanzas}, declared.stanza.RawStanza.{RawStanza}}

@@ -1,6 +1,6 @@
 -- A piece that is taken in parts.
-use Rattle.std.proofs.Common.{◌≡◌, true, ℕ, ◌+◌, List, [], ◌∷◌, ◌++◌, length, take, drop, Result, refl, sym, ap, ap₂, subst, ◌∙◌, append_assoc, length-append, take-append-drop, take_all, arith}
-use Rattle.std.proofs.{lemmas.Bool.{eqb-true}, lemmas.List.{append-nil}}
+use Rattle.std.proofs.Common.{◌≡◌, true, ℕ, ◌+◌, List, [], ◌∷◌, ◌++◌, length, take, drop, Result, refl, sym, ap, ap₂, subst, ◌∙◌, append_assoc, length-append}
+use Rattle.std.proofs.{Common.{take-append-drop, take_all, arith}, lemmas.Bool.{eqb-true}, lemmas.List.{append-nil}}
 use Rattle.std.specs.Prelude.{◌==◌, count_by}
 use Rattle.stanza_reader.specs.{Close.{IsClosed}, Lines.{is_line_feed}}
 use Rattle.repo_model.specs.{Feeding.{HasFault, IsFront, IsOpen, IsProgress, IsSuiteOf, StandsUnlessMemory}, FirstFault.{first_fault}}

@@ -1,6 +1,6 @@
 -- Clauses in their order, and the rank of each.
-use Rattle.std.proofs.Common.{◌≡◌, ◌≢◌, ℕ, zero, suc, ◌+◌, ◌<◌, Bool, true, false, cond, eqb, List, [], ◌∷◌, ◌++◌, length, get_or, map, set, take, inl, inr, refl, sym, ap, ap₂, subst, ◌∙◌, arith, eq-eqb}
-use Rattle.std.proofs.lemmas.Bool.{both_ways, cases_Bool, cases_eq, cases_lt, false_from_ne_true}
+use Rattle.std.proofs.Common.{◌≡◌, ◌≢◌, ℕ, zero, suc, ◌+◌, ◌<◌, Bool, true, false, cond, eqb, List, [], ◌∷◌, ◌++◌, length, get_or, map, set, take, inl, inr}
+use Rattle.std.proofs.{Common.{refl, sym, ap, ap₂, subst, ◌∙◌, arith, eq-eqb}, lemmas.Bool.{both_ways, cases_Bool, cases_eq, cases_lt, false_from_ne_true}}
 use Rattle.std.proofs.{lemmas.List.{get_or-set_other, get_or-set_same, map-append, take_more}, lemmas.List.Kept.{Contains-from_dedup}}
 use Rattle.std.proofs.lemmas.List.Sorted.{Contains-permutation, IsPermutation-sym}
 use Rattle.std.specs.{Cmp.{IsStrictWeakOrder}, List.{dedup, dedup_from}, List.Sorted.{IsPermutation, IsSortedBy}}

@@ -5,8 +5,8 @@ use Rattle.relation_fields.specs.declared.packages.PackageFacts.{PackageFacts}
 use Rattle.stanza_reader.specs.{declared.stanza.FieldKind.TheVariants.{Package}, declared.stanza.RawStanza.{RawStanza}}
 use Rattle.repo_model.specs.{Facts.{facts_of, is_same_package}, Fields.{value_of}, FirstFault.{duplicate_fault}, Nameless.{named, nameless}}
 use Rattle.repo_model.specs.{declared.facts.NamelessFacts.{NamelessFacts}, declared.fault.IndexFault.{IndexFault}}
-use Rattle.repo_model.specs.declared.fault.IndexFault.TheVariants.{Stanza, MissingPackage, MissingVersion, BadPackage, BadVersion, BadArchitecture, BadRelation, Duplicate, Mixed, TooMany, Memory}
-use Rattle.repo_model.specs.Refusals.{UnlessMemory, Refuses}
+use Rattle.repo_model.specs.declared.fault.IndexFault.TheVariants.{Stanza, MissingPackage, MissingVersion, BadPackage, BadVersion, BadArchitecture, BadRelation}
+use Rattle.repo_model.specs.{declared.fault.IndexFault.TheVariants.{Duplicate, Mixed, TooMany, Memory}, Refusals.{UnlessMemory, Refuses}}
 
 pub for_same : (fault : IndexFault) {P Q : Type 0} → (P → Q) → UnlessMemory fault P → UnlessMemory fault Q
 for_same (Stanza fault) step h = step h

@@ -1,6 +1,6 @@
 -- Packages that are chosen by flags, and their elements.
-use Rattle.std.proofs.Common.{◌≡◌, ℕ, ◌+◌, ◌<◌, ◌≤◌, ◌++◌, Bool, true, false, cond, List, [], ◌∷◌, Option, Some, None, length, get_or, drop, take, set, inl, inr, refl, sym, ap, ap₂, subst, ◌∙◌, add-one, append_assoc, length-append, drop-cons, arith}
-use Rattle.std.proofs.lemmas.Bool.{cases_eq}
+use Rattle.std.proofs.Common.{◌≡◌, ℕ, ◌+◌, ◌<◌, ◌≤◌, ◌++◌, Bool, true, false, cond, List, [], ◌∷◌, Option, Some, None, length, get_or, drop, take, set, inl}
+use Rattle.std.proofs.{Common.{inr, refl, sym, ap, ap₂, subst, ◌∙◌, add-one, append_assoc, length-append, drop-cons, arith}, lemmas.Bool.{cases_eq}}
 use Rattle.std.proofs.lemmas.List.{append-nil, drop_all, get_or-set_other, get_or-set_same, get_or_append_left, get_or_push, length-set, map-append, take_more}
 use Rattle.std.specs.List.{items_where_true, flat_map}
 use Rattle.relation_fields.specs.Shared.{marked}

@@ -1,6 +1,6 @@
 -- No value of a field is longer than the text that it stands in.
-use Rattle.std.proofs.Common.{◌≡◌, ℕ, suc, ◌+◌, ◌≤◌, Bool, true, false, cond, List, [], ◌∷◌, ◌++◌, length, drop, map, Option, Some, None, Result, Ok, inl, inr, ap, sym, subst, arith}
-use Rattle.std.proofs.lemmas.List.{length-append, length-drop}
+use Rattle.std.proofs.Common.{◌≡◌, ℕ, suc, ◌+◌, ◌≤◌, Bool, true, false, cond, List, [], ◌∷◌, ◌++◌, length, drop, map, Option, Some, None, Result, Ok, inl, inr}
+use Rattle.std.proofs.{Common.{ap, sym, subst, arith}, lemmas.List.{length-append, length-drop}}
 use Rattle.std.specs.{Prelude.{if◌then◌else◌}, List.{AllByRecursion, slice_split, onto_first, after_first, position_or_len, cons_option, filter}}
 use Rattle.std.specs.Option.{option_map, option_or}
 use Rattle.stanza_reader.proofs.{BlankLemmas.{good, good_readings}, CloseLemmas.{texts_numbered}}
@@ -10,9 +10,10 @@ use Rattle.deb_version.specs.Grammar.{is_colon}
 use Rattle.stanza_reader.specs.Lines.{Line, is_line_feed, is_continuation, lines, numbered}
 use Rattle.stanza_reader.specs.Fields.{is_edge, name_of, behind_colon, kind_of, trimmed_start, trimmed_end, before_trimmed, trimmed, continued}
 use Rattle.stanza_reader.specs.Places.{lines_at}
-use Rattle.stanza_reader.specs.Stanzas.{readings, stanzas, is_blank_line, has_line, groups, group_shape_fault, repeat_fault, first_number, texts, kept_field, kept_fields, unless_fault, stanza_of}
-use Rattle.stanza_reader.specs.{Reading.{readings_at}, declared.place.Place.{Place}, declared.stanza.FieldKind.{FieldKind}, declared.stanza.RawField.{RawField}}
-use Rattle.stanza_reader.specs.{declared.stanza.RawStanza.{RawStanza}, declared.fault.StanzaFault.{StanzaFault}}
+use Rattle.stanza_reader.specs.Stanzas.{readings, stanzas, is_blank_line, has_line, groups, group_shape_fault, repeat_fault, first_number, texts, kept_field}
+use Rattle.stanza_reader.specs.{Stanzas.{kept_fields, unless_fault, stanza_of}, Reading.{readings_at}, declared.place.Place.{Place}}
+use Rattle.stanza_reader.specs.{declared.stanza.FieldKind.{FieldKind}, declared.stanza.RawField.{RawField}, declared.stanza.RawStanza.{RawStanza}}
+use Rattle.stanza_reader.specs.declared.fault.StanzaFault.{StanzaFault}
 use Rattle.repo_model.specs.{Fields.{IsShort, HasShortValues}, Limits.{most_bytes}}
 
 -- the bytes of some texts, each with a line feed

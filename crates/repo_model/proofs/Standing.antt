@@ -1,12 +1,12 @@
 -- What the readings of a feed stand for, from one piece to the next.
-use Rattle.std.proofs.Common.{◌≡◌, ℕ, ◌+◌, ◌≤◌, false, cond, List, [], ◌++◌, length, take, drop, Some, None, refl, sym, ap, ◌∙◌, append_assoc, take-append-drop, arith}
-use Rattle.std.proofs.{lemmas.List.{append-nil}, lemmas.List.Sums.{count_by-le-length, sum_by-append}}
+use Rattle.std.proofs.Common.{◌≡◌, ℕ, ◌+◌, ◌≤◌, false, cond, List, [], ◌++◌, length, take, drop, Some, None, refl, sym, ap, ◌∙◌, append_assoc, take-append-drop}
+use Rattle.std.proofs.{Common.{arith}, lemmas.List.{append-nil}, lemmas.List.Sums.{count_by-le-length, sum_by-append}}
 use Rattle.std.specs.Prelude.{count_by}
 use Rattle.stanza_reader.specs.{Close.{IsClosed}, Lines.{is_line_feed}, Places.{IsPlace}, Stanzas.{groups, readings}}
 use Rattle.repo_model.specs.{Feeding.{HasFault, IsFront, IsProgress, IsSuiteOf}, FirstFault.{first_fault, home_of, stanzas_of}}
 use Rattle.repo_model.specs.{Refusals.{UnlessMemory, Refuses, is_memory}, declared.building.Building.{Building}, declared.fault.IndexFault.{IndexFault}}
-use Rattle.repo_model.specs.declared.fault.IndexFault.TheVariants.{Stanza, MissingPackage, MissingVersion, BadPackage, BadVersion, BadArchitecture, BadRelation, Duplicate, Mixed, TooMany, Memory}
-use Rattle.repo_model.specs.declared.progress.Progress.{Progress}
+use Rattle.repo_model.specs.declared.fault.IndexFault.TheVariants.{Stanza, MissingPackage, MissingVersion, BadPackage, BadVersion, BadArchitecture, BadRelation}
+use Rattle.repo_model.specs.{declared.fault.IndexFault.TheVariants.{Duplicate, Mixed, TooMany, Memory}, declared.progress.Progress.{Progress}}
 use Rattle.stanza_reader.proofs.PartLemmas.{closed_texts_join}
 use Rattle.repo_model.proofs.{Closing.{closed-nil}, Refusing.{for_same}, Steps.{fault_stays}}
 

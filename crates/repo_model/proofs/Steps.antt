@@ -1,6 +1,7 @@
 -- Reading an index stanza by stanza: what holds at each place, and how the first fault is found.
-use Rattle.std.proofs.Common.{◌≡◌, ℕ, zero, suc, ◌+◌, ◌≤◌, ◌<◌, Bool, true, false, List, [], ◌∷◌, ◌++◌, length, map, take, Option, Some, None, Result, Ok, Err, refl, sym, ap, subst, ◌∙◌, append_assoc, arith}
-use Rattle.std.proofs.{lemmas.List.{append-nil, map-append, length-map, length-append}, lemmas.Bool.Decides.{nat_tests}}
+use Rattle.std.proofs.Common.{◌≡◌, ℕ, zero, suc, ◌+◌, ◌≤◌, ◌<◌, Bool, true, false, List, [], ◌∷◌, ◌++◌, length, map, take, Option, Some, None, Result, Ok, Err}
+use Rattle.std.proofs.{Common.{refl, sym, ap, subst, ◌∙◌, append_assoc, arith}, lemmas.List.{append-nil, map-append, length-map, length-append}}
+use Rattle.std.proofs.lemmas.Bool.Decides.{nat_tests}
 use Rattle.std.specs.{Prelude.{nat_le, if◌then◌else◌, count_by}, Option.{option_or, option_and_then}}
 use Rattle.stanza_reader.specs.{Close.{IsClosed, readings_from}, Lines.{is_line_feed}, Stanzas.{readings}, Reading.{readings_at, first_reading}}
 use Rattle.stanza_reader.specs.{declared.place.Place.{Place}, declared.stanza.RawStanza.{RawStanza}, declared.fault.StanzaFault.{StanzaFault}}

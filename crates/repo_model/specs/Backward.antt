@@ -1,6 +1,7 @@
 -- for the bodies of this crate alone
 -- Blank lines, seen from the end of a text.
-use Rattle.std.specs.{Prelude.{◌≡◌, ℕ, ◌+◌, ◌<◌, ◌≤◌, Bool, true, false, ◌&&◌, List, [], ◌∷◌, reverse, slice_index_or}, List.{before_first}}
+use Rattle.std.specs.Prelude.{◌≡◌, ℕ, ◌+◌, ◌<◌, ◌≤◌, Bool, true, false, ◌&&◌, List, [], ◌∷◌}
+use Rattle.std.specs.{Prelude.{reverse, slice_index_or}, List.{before_first}}
 use Rattle.stanza_reader.specs.Lines.{is_line_feed, is_blank}
 
 -- whether the last line of a text, which follows its last line feed, is blank

@@ -2,7 +2,8 @@
 -- A suite that is being read, stanza by stanza.
 use Rattle.std.specs.{Prelude.{◌≡◌, Bool}, Coded.{Coded-set, coded_bool}}
 use Rattle.virtual_provides.specs.Bearers.{IsBuiltFrom, IsBuiltFrom-prop}
-use Rattle.repo_model.specs.{Needs.{needs-prop, needs_of_all}, declared.building.Building.{Building}}
+use Rattle.repo_model.specs.Needs.{needs-prop, needs_of_all}
+use Rattle.repo_model.specs.declared.building.Building.{Building}
 
 -- the packages are found by their names and versions, and their elements are those that were read
 pub record IsBuilt (building : Building) : Type 0 where

@@ -1,10 +1,14 @@
 -- An index that is read in pieces: what was read of it, and the texts that this stands for.
-use Rattle.std.specs.Prelude.{◌≡◌, ℕ, ◌+◌, ◌≤◌, Bool, false, List, [], ◌++◌, length, map, count_by, Option, Some, None, Result, Ok, Err, ⊤}
+use Rattle.std.specs.Prelude.{◌≡◌, ℕ, ◌+◌, ◌≤◌, Bool, false, List, [], ◌++◌, length, map, count_by}
+use Rattle.std.specs.Prelude.{Option, Some, None, Result, Ok, Err, ⊤}
 use Rattle.std.specs.Coded.{Coded-set, coded_list, coded_ℕ, Unit-prop, le_prop}
 use Rattle.stanza_reader.specs.{Close.{IsClosed}, Lines.{is_line_feed}}
 use Rattle.relation_fields.specs.declared.packages.PackageFacts.{PackageFacts}
-use Rattle.repo_model.specs.{Facts.{facts_of}, FirstFault.{first_fault, home_of, stanzas_of}, Refusals.{UnlessMemory, is_memory}}
-use Rattle.repo_model.specs.{declared.building.Building.{Building}, declared.fault.IndexFault.{IndexFault}, declared.progress.Progress.{Progress}}
+use Rattle.repo_model.specs.{Facts.{facts_of}, FirstFault.{first_fault, home_of, stanzas_of}}
+use Rattle.repo_model.specs.Refusals.{UnlessMemory, is_memory}
+use Rattle.repo_model.specs.declared.building.Building.{Building}
+use Rattle.repo_model.specs.declared.fault.IndexFault.{IndexFault}
+use Rattle.repo_model.specs.declared.progress.Progress.{Progress}
 
 -- an index without a fault, with its packages and their common architecture
 pub record IsSuiteOf (text : List ℕ) (packages : List PackageFacts)

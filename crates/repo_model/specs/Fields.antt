@@ -1,9 +1,14 @@
 -- The fields of a stanza by their kinds.
-use Rattle.std.specs.{Prelude.{ℕ, ◌≤◌, Bool, ◌==◌, List, [], Option, find, length}, List.{AllByRecursion}, Option.{option_map_or}}
+use Rattle.std.specs.Prelude.{ℕ, ◌≤◌, Bool, ◌==◌, List, [], Option, find, length}
+use Rattle.std.specs.{List.{AllByRecursion}, Option.{option_map_or}}
 use Rattle.repo_model.specs.Limits.{most_bytes}
 use Rattle.stanza_reader.specs.declared.stanza.FieldKind.{FieldKind}
-use Rattle.stanza_reader.specs.declared.stanza.FieldKind.TheVariants.{Package, Version, Architecture, PreDepends, Depends, Conflicts, Breaks, Provides, Status}
-use Rattle.stanza_reader.specs.{declared.stanza.RawField.{RawField}, declared.stanza.RawStanza.{RawStanza}}
+use Rattle.stanza_reader.specs.declared.stanza.FieldKind.TheVariants.{Package, Version}
+use Rattle.stanza_reader.specs.declared.stanza.FieldKind.TheVariants.{Architecture, PreDepends}
+use Rattle.stanza_reader.specs.declared.stanza.FieldKind.TheVariants.{Depends, Conflicts, Breaks}
+use Rattle.stanza_reader.specs.declared.stanza.FieldKind.TheVariants.{Provides, Status}
+use Rattle.stanza_reader.specs.declared.stanza.RawField.{RawField}
+use Rattle.stanza_reader.specs.declared.stanza.RawStanza.{RawStanza}
 
 -- the place of each kind in the list of kinds
 abbrev pub kind_place : FieldKind → ℕ

@@ -11,16 +11,31 @@
 --     earlier stanza with such a value, if there is one.
 -- The first stanza with a fault decides. `stanza_reader` says which shapes are bad, and which names
 -- are repeated.
-use Rattle.std.specs.Prelude.{ℕ, Bool, true, nat_le, ◌||◌, if◌then◌else◌, List, [], ◌∷◌, Option, Some, None, Result, Ok, Err, map, find, take, is_some, length}
-use Rattle.std.specs.{List.{enumerate_from, filter_map}, Option.{option_map, option_map_or, option_and_then, option_or}, Result.{result_ok}, Str.{bytes_eq}}
+use Rattle.std.specs.Prelude.{ℕ, Bool, true, nat_le, ◌||◌, if◌then◌else◌, List, [], ◌∷◌, Option}
+use Rattle.std.specs.Prelude.{Some, None, Result, Ok, Err, map, find, take, is_some, length}
+use Rattle.std.specs.List.{enumerate_from, filter_map}
+use Rattle.std.specs.Option.{option_map, option_map_or, option_and_then, option_or}
+use Rattle.std.specs.{Result.{result_ok}, Str.{bytes_eq}}
 use Rattle.deb_version.specs.{Names.{is_name}, Grammar.{is_version}}
 use Rattle.stanza_reader.specs.{Stanzas.{readings}, declared.stanza.FieldKind.{FieldKind}}
-use Rattle.stanza_reader.specs.declared.stanza.FieldKind.TheVariants.{Package, Version, Architecture, PreDepends, Depends, Conflicts, Breaks, Provides}
-use Rattle.stanza_reader.specs.{declared.stanza.RawField.{RawField}, declared.stanza.RawStanza.{RawStanza}, declared.fault.StanzaFault.{StanzaFault}}
-use Rattle.relation_fields.specs.{Grammar.{is_architecture, atom_of, alternatives_of, provide_of}, Fields.{first_outside}}
+use Rattle.stanza_reader.specs.declared.stanza.FieldKind.TheVariants.{Package, Version}
+use Rattle.stanza_reader.specs.declared.stanza.FieldKind.TheVariants.{Architecture, PreDepends}
+use Rattle.stanza_reader.specs.declared.stanza.FieldKind.TheVariants.{Depends, Conflicts, Breaks}
+use Rattle.stanza_reader.specs.declared.stanza.FieldKind.TheVariants.{Provides}
+use Rattle.stanza_reader.specs.declared.stanza.RawField.{RawField}
+use Rattle.stanza_reader.specs.declared.stanza.RawStanza.{RawStanza}
+use Rattle.stanza_reader.specs.declared.fault.StanzaFault.{StanzaFault}
+use Rattle.relation_fields.specs.Grammar.{is_architecture, atom_of, alternatives_of, provide_of}
+use Rattle.relation_fields.specs.Fields.{first_outside}
 use Rattle.relation_fields.specs.declared.packages.PackageFacts.{PackageFacts}
-use Rattle.repo_model.specs.{Fields.{field_of}, Facts.{facts_of, is_same_package, is_all, architecture_of}, declared.fault.IndexFault.{IndexFault}}
-use Rattle.repo_model.specs.declared.fault.IndexFault.TheVariants.{Stanza, MissingPackage, MissingVersion, BadPackage, BadVersion, BadArchitecture, BadRelation, Duplicate, Mixed, TooMany}
+use Rattle.repo_model.specs.Fields.{field_of}
+use Rattle.repo_model.specs.Facts.{facts_of, is_same_package, is_all, architecture_of}
+use Rattle.repo_model.specs.declared.fault.IndexFault.{IndexFault}
+use Rattle.repo_model.specs.declared.fault.IndexFault.TheVariants.{Stanza, MissingPackage}
+use Rattle.repo_model.specs.declared.fault.IndexFault.TheVariants.{MissingVersion, BadPackage}
+use Rattle.repo_model.specs.declared.fault.IndexFault.TheVariants.{BadVersion, BadArchitecture}
+use Rattle.repo_model.specs.declared.fault.IndexFault.TheVariants.{BadRelation, Duplicate, Mixed}
+use Rattle.repo_model.specs.declared.fault.IndexFault.TheVariants.{TooMany}
 use Rattle.repo_model.specs.Limits.{most_packages}
 
 -- the first that is there

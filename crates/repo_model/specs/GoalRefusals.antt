@@ -1,8 +1,10 @@
 -- When a word is no goal.
 use Rattle.std.specs.Prelude.{⊤}
 use Rattle.deb_version.specs.declared.versions.VersionError.{VersionError}
-use Rattle.deb_version.specs.declared.versions.VersionError.TheVariants.{Shape as BadVersion, Memory as NoMemory}
-use Rattle.repo_model.specs.{declared.goals.GoalError.{GoalError}, declared.goals.GoalError.TheVariants.{Shape, Memory}}
+use Rattle.deb_version.specs.declared.versions.VersionError.TheVariants.{Shape as BadVersion}
+use Rattle.deb_version.specs.declared.versions.VersionError.TheVariants.{Memory as NoMemory}
+use Rattle.repo_model.specs.declared.goals.GoalError.{GoalError}
+use Rattle.repo_model.specs.declared.goals.GoalError.TheVariants.{Shape, Memory}
 
 -- the fact, if a word was refused for its shape
 abbrev pub OnShape : Type 0 → GoalError → Type 0

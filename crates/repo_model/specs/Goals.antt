@@ -1,14 +1,17 @@
 -- Goals: a name of packages, or a name and a version, written as for apt-get(8) with an equals sign
 -- between them. Here a version stands for all that compare as equal. What packages a goal names,
 -- and when one package for each of some goals can be installed together.
-use Rattle.std.specs.Prelude.{◌≡◌, ℕ, Bool, true, ◌&&◌, ◌==◌, if◌then◌else◌, List, Option, Some, None, map, filter}
-use Rattle.std.specs.{List.{list_any, before_first, after_first}, Option.{option_map_or}, Ordering.{is_eq}, Str.{bytes_eq}}
+use Rattle.std.specs.Prelude.{◌≡◌, ℕ, Bool, true, ◌&&◌, ◌==◌, if◌then◌else◌, List, Option, Some}
+use Rattle.std.specs.{Prelude.{None, map, filter}, List.{list_any, before_first, after_first}}
+use Rattle.std.specs.{Option.{option_map_or}, Ordering.{is_eq}, Str.{bytes_eq}}
 use Rattle.deb_version.specs.{Grammar.{is_version}, Names.{is_name}, Order.{version_order}}
-use Rattle.relation_fields.specs.{declared.packages.Home.{Home}, declared.packages.PackageFacts.{PackageFacts}}
+use Rattle.relation_fields.specs.declared.packages.Home.{Home}
+use Rattle.relation_fields.specs.declared.packages.PackageFacts.{PackageFacts}
 use Rattle.clause_pool.specs.Clauses.{in_row_order}
 use Rattle.row_book.specs.Sets.{NumSet, Is}
 use Rattle.listed.specs.Lists.{In}
-use Rattle.repo_model.specs.{declared.goals.Goal.{Goal}, Repository.{packages_of}, Stanzas.{stanza_at, HealthyStanzas}}
+use Rattle.repo_model.specs.{declared.goals.Goal.{Goal}, Repository.{packages_of}}
+use Rattle.repo_model.specs.Stanzas.{stanza_at, HealthyStanzas}
 
 abbrev pub is_equals : ℕ → Bool
 is_equals c = c == 61

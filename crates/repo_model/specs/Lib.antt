@@ -22,3 +22,5 @@ pub mod Laws
 pub mod GoalRefusals
 pub mod NameOrder
 pub mod Picking
+-- named here too, so that attributes that cite them fit in a line
+pub use Rattle.repo_model.specs.{Facts.{architecture_of}, FirstFault.{value_fault}}

@@ -1,6 +1,7 @@
 -- for the bodies of this crate alone
 -- Names in the order of their bytes.
-use Rattle.std.specs.{Prelude.{◌≡◌, ℕ, ◌<◌, ◌≤◌, ◌-◌, Bool, false, ◌&&◌, nat_lt, List, [], length, slice_index_or}, Str.{bytes_eq}}
+use Rattle.std.specs.Prelude.{◌≡◌, ℕ, ◌<◌, ◌≤◌, ◌-◌, Bool, false, ◌&&◌, nat_lt, List, [], length}
+use Rattle.std.specs.{Prelude.{slice_index_or}, Str.{bytes_eq}}
 use Rattle.clause_pool.specs.Clauses.{comes_before}
 
 -- the name at a place

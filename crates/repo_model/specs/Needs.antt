@@ -1,6 +1,8 @@
 -- The elements of the packages' needs.
 use Rattle.std.specs.{Prelude.{◌≡◌, List}, List.{flat_map}}
-use Rattle.relation_fields.specs.{Codes.{elements-prop}, declared.packages.PackageFacts.{PackageFacts}, declared.relations.Atom.{Atom}}
+use Rattle.relation_fields.specs.Codes.{elements-prop}
+use Rattle.relation_fields.specs.declared.packages.PackageFacts.{PackageFacts}
+use Rattle.relation_fields.specs.declared.relations.Atom.{Atom}
 
 -- the elements of all packages, those of one package after those of another
 abbrev pub needs_of_all : List PackageFacts → List (List Atom)

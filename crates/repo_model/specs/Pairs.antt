@@ -1,7 +1,10 @@
 -- The pairs of packages that conflict. They are found from each package: with the earlier packages
 -- of its name, and with those that meet one of its conflicts.
-use Rattle.std.specs.{Prelude.{◌≡◌, ◌≢◌, ℕ, ◌<◌, ◌↔◌, ◌⊎◌, Bool, List, max, min, take}, Str.{bytes_eq}}
-use Rattle.relation_fields.specs.{declared.packages.Home.{Home}, declared.packages.PackageFacts.{PackageFacts}, declared.relations.Atom.{Atom}}
+use Rattle.std.specs.Prelude.{◌≡◌, ◌≢◌, ℕ, ◌<◌, ◌↔◌, ◌⊎◌, Bool, List, max, min, take}
+use Rattle.std.specs.Str.{bytes_eq}
+use Rattle.relation_fields.specs.declared.packages.Home.{Home}
+use Rattle.relation_fields.specs.declared.packages.PackageFacts.{PackageFacts}
+use Rattle.relation_fields.specs.declared.relations.Atom.{Atom}
 use Rattle.listed.specs.Lists.{In}
 use Rattle.row_book.specs.declared.pair.Pair.{Pair}
 use Rattle.package_register.specs.Numbers.{numbers_where}

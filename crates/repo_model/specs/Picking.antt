@@ -3,7 +3,8 @@
 use Rattle.std.specs.Prelude.{ℕ, nat_le, if◌then◌else◌, List, Option, Some, length}
 use Rattle.stanza_reader.specs.declared.stanza.RawStanza.{RawStanza}
 use Rattle.relation_fields.specs.declared.packages.PackageFacts.{PackageFacts}
-use Rattle.repo_model.specs.{FirstFault.{stanza_fault}, Limits.{most_packages}, declared.fault.IndexFault.{IndexFault}}
+use Rattle.repo_model.specs.{FirstFault.{stanza_fault}, Limits.{most_packages}}
+use Rattle.repo_model.specs.declared.fault.IndexFault.{IndexFault}
 use Rattle.repo_model.specs.declared.fault.IndexFault.TheVariants.{TooMany}
 
 -- a stanza after these packages is one too many, or else has a fault of its own or with them

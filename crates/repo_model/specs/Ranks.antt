@@ -1,7 +1,8 @@
 -- for the bodies of this crate alone
 -- Clauses in their order, and the rank of each.
 use Rattle.std.specs.Prelude.{◌≡◌, ℕ, ◌<◌, List, [], length, map, slice_index_or}
-use Rattle.clause_pool.specs.{Interned.{Interned, clause_at, clauses_at, IsPool, OfPool}, Lists.{InOrder}}
+use Rattle.clause_pool.specs.Interned.{Interned, clause_at, clauses_at, IsPool, OfPool}
+use Rattle.clause_pool.specs.Lists.{InOrder}
 use Rattle.listed.specs.Lists.{In}
 use Rattle.repo_model.specs.declared.ranks.Ranks.{Ranks}
 

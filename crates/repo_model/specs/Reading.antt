@@ -1,10 +1,15 @@
 -- for the bodies of this crate alone
 -- One stanza after another, up to 200,000 of them.
-use Rattle.std.specs.Prelude.{◌≡◌, ◌<◌, ℕ, nat_le, if◌then◌else◌, List, [], ◌∷◌, Option, Some, None, Result, Ok, Err}
-use Rattle.stanza_reader.specs.{Reading.{readings_at, IsBehind}, declared.place.Place.{Place}, declared.reading.Next.{Next}}
+use Rattle.std.specs.Prelude.{◌≡◌, ◌<◌, ℕ, nat_le, if◌then◌else◌, List, [], ◌∷◌, Option, Some, None}
+use Rattle.std.specs.Prelude.{Result, Ok, Err}
+use Rattle.stanza_reader.specs.{Reading.{readings_at, IsBehind}, declared.place.Place.{Place}}
+use Rattle.stanza_reader.specs.declared.reading.Next.{Next}
 use Rattle.stanza_reader.specs.declared.reading.Next.TheVariants.{End, Stanza as Found}
-use Rattle.stanza_reader.specs.{declared.stanza.RawStanza.{RawStanza}, declared.fault.StanzaFault.{StanzaFault}}
-use Rattle.repo_model.specs.{declared.fault.IndexFault.{IndexFault}, declared.fault.IndexFault.TheVariants.{Stanza, TooMany}, Limits.{most_packages}}
+use Rattle.stanza_reader.specs.declared.stanza.RawStanza.{RawStanza}
+use Rattle.stanza_reader.specs.declared.fault.StanzaFault.{StanzaFault}
+use Rattle.repo_model.specs.declared.fault.IndexFault.{IndexFault}
+use Rattle.repo_model.specs.declared.fault.IndexFault.TheVariants.{Stanza, TooMany}
+use Rattle.repo_model.specs.Limits.{most_packages}
 
 abbrev pub lines_fault : Result RawStanza StanzaFault → Option IndexFault
 lines_fault (Ok stanza) = None

@@ -1,9 +1,12 @@
 -- The repository of an index has a package for each stanza. It has a clause for each element of its
 -- dependencies, equal ones once, in lexicographic order; and the conflicts between packages.
 -- Vouillon and Di Cosmo, "On Software Component Co-Installability".
-use Rattle.std.specs.{Prelude.{ℕ, Bool, not, ◌&&◌, ◌||◌, eqb, List, map, filter, length}, List.{list_any, range_with_len}, Str.{bytes_eq}}
+use Rattle.std.specs.Prelude.{ℕ, Bool, not, ◌&&◌, ◌||◌, eqb, List, map, filter, length}
+use Rattle.std.specs.{List.{list_any, range_with_len}, Str.{bytes_eq}}
 use Rattle.clause_pool.specs.Clauses.{in_row_order}
-use Rattle.relation_fields.specs.{Meeting.{meets}, declared.packages.Home.{Home}, declared.packages.PackageFacts.{PackageFacts}, declared.relations.Atom.{Atom}}
+use Rattle.relation_fields.specs.{Meeting.{meets}, declared.packages.Home.{Home}}
+use Rattle.relation_fields.specs.declared.packages.PackageFacts.{PackageFacts}
+use Rattle.relation_fields.specs.declared.relations.Atom.{Atom}
 use Rattle.repo_model.specs.Stanzas.{stanza_at}
 use Rattle.row_book.specs.Repository.{Repository}
 

@@ -1,7 +1,10 @@
 -- Which stanzas of an index can be installed together, judged on the stanzas alone: Debian Policy
 -- 7.2 to 7.4. The home is the common architecture of the index.
-use Rattle.std.specs.{Prelude.{◌≡◌, ◌≢◌, ℕ, ◌<◌, true, false, List, [], length, slice_index_or}, Str.{bytes_eq}}
-use Rattle.relation_fields.specs.{Meeting.{meets}, declared.packages.Home.{Home}, declared.packages.PackageFacts.{PackageFacts}, declared.relations.Atom.{Atom}}
+use Rattle.std.specs.Prelude.{◌≡◌, ◌≢◌, ℕ, ◌<◌, true, false, List, [], length, slice_index_or}
+use Rattle.std.specs.Str.{bytes_eq}
+use Rattle.relation_fields.specs.{Meeting.{meets}, declared.packages.Home.{Home}}
+use Rattle.relation_fields.specs.declared.packages.PackageFacts.{PackageFacts}
+use Rattle.relation_fields.specs.declared.relations.Atom.{Atom}
 use Rattle.row_book.specs.Sets.{NumSet, Is, Within}
 use Rattle.listed.specs.Lists.{In}
 

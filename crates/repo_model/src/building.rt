@@ -1,10 +1,15 @@
 //! A suite that is being read, stanza by stanza.
-ghost use Rattle.std.specs.Prelude.{◌≡◌, ◌<◌, ◌≤◌, ◌++◌, ◌∷◌, [], None, length, IfOk, OnOk, find, slice_get};
+ghost use Rattle.std.specs.Prelude.{◌≡◌, ◌<◌, ◌≤◌, ◌++◌, ◌∷◌, [], None, length, IfOk, OnOk, find};
+ghost use Rattle.std.specs.Prelude.{slice_get};
 ghost use Rattle.std.specs.Option.{option_and_then, option_map, option_or, option_copied};
-ghost use Rattle.repo_model.specs.{Fields.{field_of, HasShortValues}, Facts.{facts_of, is_all, is_same_package, architecture_of}};
-ghost use Rattle.repo_model.specs.{FirstFault.{stanza_fault, duplicate_fault, mixed_fault, is_at_home}, Refusals.{Answers}, Building.{IsBuilt}};
-ghost use Rattle.repo_model.specs.{Nameless.{named, nameless}, Needs.{needs_of_all}, Limits.{most_packages}};
-ghost use Rattle.stanza_reader.specs.{declared.stanza.FieldKind.{FieldKind}, declared.stanza.RawStanza.{RawStanza}};
+ghost use Rattle.repo_model.specs.Fields.{field_of, HasShortValues};
+ghost use Rattle.repo_model.specs.Facts.{facts_of, is_all, is_same_package, architecture_of};
+ghost use Rattle.repo_model.specs.FirstFault.{stanza_fault, duplicate_fault, mixed_fault};
+ghost use Rattle.repo_model.specs.{FirstFault.{is_at_home}, Refusals.{Answers}, Building.{IsBuilt}};
+ghost use Rattle.repo_model.specs.{Nameless.{named, nameless}, Needs.{needs_of_all}};
+ghost use Rattle.repo_model.specs.Limits.{most_packages};
+ghost use Rattle.stanza_reader.specs.declared.stanza.FieldKind.{FieldKind};
+ghost use Rattle.stanza_reader.specs.declared.stanza.RawStanza.{RawStanza};
 ghost use Rattle.virtual_provides.specs.Bearers.{IsBuiltFrom};
 ghost use Rattle.relation_fields.specs.declared.packages.PackageFacts.{PackageFacts};
 
@@ -184,7 +189,7 @@ fn is_at_home(home: &Home, architecture: &[u8]) -> bool
 
 // Checks that a stanza with this field `Architecture` is of the home, unless its architecture is
 // `all` or missing. If there is no home yet, the architecture becomes the home.
-#[tactic(auto, unfolding(crate::specs::FirstFault::mixed_fault, crate::specs::Facts::architecture_of))]
+#[tactic(auto, unfolding(crate::specs::FirstFault::mixed_fault, crate::specs::architecture_of))]
 fn settle_home(
     alloc: Global,
     home: &mut Home,

@@ -1,6 +1,7 @@
 //! The packages that goals and names choose.
 ghost use Rattle.std.specs.{Prelude.{◌≡◌, IfOk}, List.{list_any}};
-ghost use Rattle.repo_model.specs.{Goals.{any_version, one_version, packages_named}, Pairs.{is_named}};
+ghost use Rattle.repo_model.specs.Goals.{any_version, one_version, packages_named};
+ghost use Rattle.repo_model.specs.Pairs.{is_named};
 
 use crate::goals::Goal;
 use crate::suite::Suite;

@@ -1,12 +1,18 @@
 //! The package that a stanza describes, or the fault of its fields.
 //!
 //! The name comes last, so that the owner of the stanza gives it away without a copy.
-ghost use Rattle.std.specs.{Prelude.{◌≡◌, ◌++◌, None, Some, IfOk, is_some}, List.{AllByRecursion}, Option.{option_and_then, option_copied, option_or}};
+ghost use Rattle.std.specs.{Prelude.{◌≡◌, ◌++◌, None, Some, IfOk, is_some}, List.{AllByRecursion}};
+ghost use Rattle.std.specs.Option.{option_and_then, option_copied, option_or};
 ghost use Rattle.deb_version.specs.{Names.{is_name}, Grammar.{is_version}};
 ghost use Rattle.relation_fields.specs.{Grammar.{is_architecture, atom_of}, Fields.{said_in}};
-ghost use Rattle.repo_model.specs.declared.fault.IndexFault.TheVariants.{BadPackage, BadVersion, BadArchitecture};
-ghost use Rattle.repo_model.specs.{Fields.{field_among, field_of, value_among, value_of, IsShort, HasShortValues}, Facts.{architecture_of, facts_of, is_all}};
-ghost use Rattle.repo_model.specs.{Nameless.{named, nameless}, FirstFault.{own_fault, unless_good, unless_said}, Refusals.{Answers}};
+ghost use Rattle.repo_model.specs.declared.fault.IndexFault.TheVariants.{BadPackage, BadVersion};
+ghost use Rattle.repo_model.specs.declared.fault.IndexFault.TheVariants.{BadArchitecture};
+ghost use Rattle.repo_model.specs.Fields.{field_among, field_of, value_among, value_of, IsShort};
+ghost use Rattle.repo_model.specs.Fields.{HasShortValues};
+ghost use Rattle.repo_model.specs.Facts.{architecture_of, facts_of, is_all};
+ghost use Rattle.repo_model.specs.Nameless.{named, nameless};
+ghost use Rattle.repo_model.specs.FirstFault.{own_fault, unless_good, unless_said};
+ghost use Rattle.repo_model.specs.Refusals.{Answers};
 
 use crate::fault::IndexFault;
 use crate::fields::{find_field, place_of};
@@ -56,7 +62,7 @@ impl NamelessFacts {
 }
 
 /// The package that a stanza describes, without its name, or the first fault of its fields.
-#[tactic(auto, unfolding(crate::specs::Facts::facts_of, crate::specs::FirstFault::presence_fault, crate::specs::FirstFault::value_fault))]
+#[tactic(auto, unfolding(crate::specs::FirstFault::presence_fault, crate::specs::value_fault))]
 pub(crate) fn read_facts(
     alloc: Global,
     elements: &mut ElementTable,

@@ -1,6 +1,7 @@
 //! An index that is read piece by piece.
 ghost use Rattle.std.specs.Prelude.{◌≡◌, ◌+◌, ◌≤◌, ◌++◌, List, ℕ, true, length};
-ghost use Rattle.repo_model.specs.Feeding.{is_spent, FitsWithin, FitsWithin-prop, HoldsOpen, HoldsOpen-prop, StandsFor, StandsUnlessMemory};
+ghost use Rattle.repo_model.specs.Feeding.{is_spent, FitsWithin, FitsWithin-prop, HoldsOpen};
+ghost use Rattle.repo_model.specs.Feeding.{HoldsOpen-prop, StandsFor, StandsUnlessMemory};
 ghost use Rattle.repo_model.specs.Limits.{most_bytes};
 
 use crate::fault::IndexFault;
@@ -23,9 +24,12 @@ pub struct SuiteFeed {
 }
 
 impl SuiteFeed {
-    ghost use Rattle.std.specs.Prelude.{◌≡◌, List, ℕ, [], true, map, None, IfOk, IfErr, IsErrAnd, OnOk};
-    ghost use Rattle.repo_model.specs.{Facts.{facts_of, AreNamedPackages}, Feed.{taken_of, was_refused, FeedStandsFor}};
-    ghost use Rattle.repo_model.specs.{FirstFault.{first_fault, home_of, stanzas_of}, Refusals.{is_memory, Refuses}};
+    ghost use Rattle.std.specs.Prelude.{◌≡◌, List, ℕ, [], true, map, None, IfOk, IfErr, IsErrAnd};
+    ghost use Rattle.std.specs.Prelude.{OnOk};
+    ghost use Rattle.repo_model.specs.Facts.{facts_of, AreNamedPackages};
+    ghost use Rattle.repo_model.specs.Feed.{taken_of, was_refused, FeedStandsFor};
+    ghost use Rattle.repo_model.specs.FirstFault.{first_fault, home_of, stanzas_of};
+    ghost use Rattle.repo_model.specs.Refusals.{is_memory, Refuses};
 
     /// A feed that has taken no byte.
     pub fn new(alloc: Global) -> Result<SuiteFeed, AllocError>
@@ -72,7 +76,8 @@ impl SuiteFeed {
 }
 
 impl Taker for SuiteFeed {
-    ghost use Rattle.std.specs.Prelude.{◌≡◌, ◌+◌, ◌≤◌, ◌++◌, List, ℕ, true, length, OnOk, OnErr, IsErr};
+    ghost use Rattle.std.specs.Prelude.{◌≡◌, ◌+◌, ◌≤◌, ◌++◌, List, ℕ, true, length, OnOk, OnErr};
+    ghost use Rattle.std.specs.Prelude.{IsErr};
     ghost use Rattle.repo_model.specs.Feed.{taken_of, was_refused, FeedStandsFor};
 
     ghost stands_for = { λ feed text. FeedStandsFor feed text };

@@ -1,5 +1,6 @@
 //! The fields of a stanza by their kinds.
-ghost use Rattle.std.specs.{Prelude.{◌≡◌, IfSome}, List.{AllByRecursion, position}, Option.{option_copied}};
+ghost use Rattle.std.specs.{Prelude.{◌≡◌, IfSome}, List.{AllByRecursion, position}};
+ghost use Rattle.std.specs.Option.{option_copied};
 ghost use Rattle.repo_model.specs.Fields.{field_among, is_kind, IsShort};
 
 use stanza_reader::{FieldKind, RawField};

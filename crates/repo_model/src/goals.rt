@@ -1,6 +1,7 @@
 //! Goals: the words that name what is to be installed.
 ghost use Rattle.std.specs.{Prelude.{◌≡◌, Some, None, IfOk, IfErr}, List.{position}};
-ghost use Rattle.repo_model.specs.{Goals.{goal_of, goal_of_name, goal_of_parts, is_equals}, GoalRefusals.{OnShape}};
+ghost use Rattle.repo_model.specs.Goals.{goal_of, goal_of_name, goal_of_parts, is_equals};
+ghost use Rattle.repo_model.specs.GoalRefusals.{OnShape};
 
 use deb_version::{Bytes, Version, VersionError, is_package_name};
 use listed::Listed;

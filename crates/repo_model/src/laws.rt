@@ -1,7 +1,8 @@
 //! Laws over the definitions that the contracts of suites cite. These functions do nothing: the
 //! contract of each is one law.
 ghost use Rattle.std.specs.Prelude.{◌≡◌, List, map};
-ghost use Rattle.relation_fields.specs.{declared.packages.Home.{Home}, declared.packages.PackageFacts.{PackageFacts}};
+ghost use Rattle.relation_fields.specs.declared.packages.Home.{Home};
+ghost use Rattle.relation_fields.specs.declared.packages.PackageFacts.{PackageFacts};
 ghost use Rattle.repo_model.specs.Laws.{but_line, IgnoresLines, IsOfPackages, KeepsHealth};
 
 /// A set of stanzas is healthy, judged on the stanzas alone, exactly if it is healthy in their

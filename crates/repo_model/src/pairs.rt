@@ -3,7 +3,8 @@ ghost use Rattle.std.specs.Prelude.{◌≡◌, ◌≤◌, ◌<◌, ℕ, IfOk, On
 ghost use Rattle.row_book.specs.Book.{are_paired, PairsFit};
 ghost use Rattle.virtual_provides.specs.Bearers.{IsBuiltFrom};
 ghost use Rattle.package_register.specs.Numbers.{numbers_where};
-ghost use Rattle.repo_model.specs.{Pairs.{is_named, pair_of, Adds, IsAgainst, IsPairWith}, Repository.{in_conflict}, Stanzas.{stanza_at}};
+ghost use Rattle.repo_model.specs.Pairs.{is_named, pair_of, Adds, IsAgainst, IsPairWith};
+ghost use Rattle.repo_model.specs.{Repository.{in_conflict}, Stanzas.{stanza_at}};
 ghost use Rattle.repo_model.specs.Limits.{most_packages};
 
 use relation_fields::{Atom, Home, PackageFacts};

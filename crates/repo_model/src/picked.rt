@@ -1,9 +1,13 @@
 //! The suite of some of the stanzas that were read.
-ghost use Rattle.std.specs.{Prelude.{◌≡◌, ◌≤◌, ◌∷◌, ◌++◌, List, ℕ, [], Ok, length, IfOk, IfErr, OnOk}, Option.{option_or}};
+ghost use Rattle.std.specs.Prelude.{◌≡◌, ◌≤◌, ◌∷◌, ◌++◌, List, ℕ, [], Ok, length, IfOk, IfErr};
+ghost use Rattle.std.specs.{Prelude.{OnOk}, Option.{option_or}};
 ghost use Rattle.listed.specs.Lists.{In};
-ghost use Rattle.stanza_reader.specs.{Blanking.{picked}, Stanzas.{stanzas}, declared.stanza.RawStanza.{RawStanza}};
-ghost use Rattle.repo_model.specs.{Building.{IsBuilt}, Facts.{architecture_of, facts_of}, Feeding.{IsSuiteOf}, Fields.{HasShortValues}};
-ghost use Rattle.repo_model.specs.{FirstFault.{first_fault}, Limits.{most_packages}, Picking.{next_fault}, Refusals.{Answers, Refuses}};
+ghost use Rattle.stanza_reader.specs.{Blanking.{picked}, Stanzas.{stanzas}};
+ghost use Rattle.stanza_reader.specs.declared.stanza.RawStanza.{RawStanza};
+ghost use Rattle.repo_model.specs.{Building.{IsBuilt}, Facts.{architecture_of, facts_of}};
+ghost use Rattle.repo_model.specs.{Feeding.{IsSuiteOf}, Fields.{HasShortValues}};
+ghost use Rattle.repo_model.specs.{FirstFault.{first_fault}, Limits.{most_packages}};
+ghost use Rattle.repo_model.specs.{Picking.{next_fault}, Refusals.{Answers, Refuses}};
 
 use crate::building::Building;
 use crate::fault::IndexFault;

@@ -1,10 +1,13 @@
 //! The repository of a suite as plain lists, and co-installability in the plainest way: for tests
 //! of the fast ways.
-ghost use Rattle.std.specs.{Prelude.{◌≡◌, ◌≤◌, ◌<◌, ◌↔◌, ℕ, [], IfOk, IsTrue, OnOk, map, length, slice_index_or, true, false, ◌||◌}, Str.{bytes_eq}};
+ghost use Rattle.std.specs.Prelude.{◌≡◌, ◌≤◌, ◌<◌, ◌↔◌, ℕ, [], IfOk, IsTrue, OnOk, map, length};
+ghost use Rattle.std.specs.{Prelude.{slice_index_or, true, false, ◌||◌}, Str.{bytes_eq}};
 ghost use Rattle.relation_fields.specs.Meeting.{meets};
 ghost use Rattle.clause_pool.specs.Clauses.{comes_before, in_row_order, insert_clause};
 ghost use Rattle.listed.specs.Lists.{has};
-ghost use Rattle.repo_model.specs.Repository.{clause_of, conflicting_with, in_conflict, meets_any, packages_of, row_of, stands_against, suite_repository};
+ghost use Rattle.repo_model.specs.Repository.{clause_of, conflicting_with, in_conflict, meets_any};
+ghost use Rattle.repo_model.specs.Repository.{packages_of, row_of, stands_against};
+ghost use Rattle.repo_model.specs.Repository.{suite_repository};
 ghost use Rattle.repo_model.specs.{Stanzas.{stanza_at, CoinstStanzas}, Limits.{most_packages}};
 
 use crate::suite::Suite;

@@ -26,7 +26,8 @@ pub(crate) struct Progress {
 impl Progress {
     ghost use Rattle.std.specs.Prelude.{◌≡◌, ◌+◌, ◌++◌, List, ℕ, [], take, drop, IfOk, IfErr};
     ghost use Rattle.stanza_reader.specs.Close.{IsClosed};
-    ghost use Rattle.repo_model.specs.{Feeding.{IsOpen, IsProgress, IsSuiteOf, StandsUnlessMemory}, FirstFault.{first_fault}, Refusals.{Refuses}};
+    ghost use Rattle.repo_model.specs.Feeding.{IsOpen, IsProgress, IsSuiteOf, StandsUnlessMemory};
+    ghost use Rattle.repo_model.specs.{FirstFault.{first_fault}, Refusals.{Refuses}};
 
     /// Nothing was read.
     pub(crate) fn new(alloc: Global) -> Self

@@ -2,7 +2,8 @@
 //!
 //! All clauses are put in order once, and each has its place among them as its rank. A row is then
 //! put in order by numbers.
-ghost use Rattle.std.specs.{Prelude.{◌≡◌, ◌<◌, ℕ, IfOk, map, length, slice_index_or}, Ordering.{is_lt}};
+ghost use Rattle.std.specs.Prelude.{◌≡◌, ◌<◌, ℕ, IfOk, map, length, slice_index_or};
+ghost use Rattle.std.specs.Ordering.{is_lt};
 ghost use Rattle.clause_pool.specs.{Interned.{clause_at, IsPool, OfPool}, Clauses.{comes_before}};
 ghost use Rattle.listed.specs.Lists.{In};
 ghost use Rattle.repo_model.specs.Ranks.{AreOrdered, AreRanked, EachIdOnce, HasPlaces};

@@ -1,10 +1,14 @@
 //! Stanzas that are read one after the other.
 //!
 //! The count comes first, so one stanza too many is found before its lines are looked at.
-ghost use Rattle.std.specs.{Prelude.{◌≡◌, ◌≤◌, ◌+◌, ◌++◌, List, ℕ, length, drop, count_by, nat_le, IfOk, IfErr}, Option.{option_and_then}};
-ghost use Rattle.stanza_reader.specs.{Lines.{is_line_feed}, Places.{IsPlace}, Reading.{first_reading, readings_at}, declared.place.Place.{Place}};
-ghost use Rattle.repo_model.specs.{Building.{IsBuilt}, Feeding.{IsFront, IsSuiteOf}, FirstFault.{first_fault}, Refusals.{Refuses}, Reading.{shape_fault, Goes}};
-ghost use Rattle.repo_model.specs.Limits.{most_bytes, most_packages};
+ghost use Rattle.std.specs.Prelude.{◌≡◌, ◌≤◌, ◌+◌, ◌++◌, List, ℕ, length, drop, count_by, nat_le};
+ghost use Rattle.std.specs.{Prelude.{IfOk, IfErr}, Option.{option_and_then}};
+ghost use Rattle.stanza_reader.specs.{Lines.{is_line_feed}, Places.{IsPlace}};
+ghost use Rattle.stanza_reader.specs.Reading.{first_reading, readings_at};
+ghost use Rattle.stanza_reader.specs.declared.place.Place.{Place};
+ghost use Rattle.repo_model.specs.{Building.{IsBuilt}, Feeding.{IsFront, IsSuiteOf}};
+ghost use Rattle.repo_model.specs.{FirstFault.{first_fault}, Refusals.{Refuses}};
+ghost use Rattle.repo_model.specs.{Reading.{shape_fault, Goes}, Limits.{most_bytes, most_packages}};
 
 use crate::blank::count_feeds;
 use crate::building::Building;

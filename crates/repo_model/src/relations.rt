@@ -1,7 +1,9 @@
 //! The relation fields of a stanza.
-ghost use Rattle.std.specs.{Prelude.{◌++◌, IfOk}, List.{AllByRecursion}, Option.{option_and_then, option_or}};
+ghost use Rattle.std.specs.{Prelude.{◌++◌, IfOk}, List.{AllByRecursion}};
+ghost use Rattle.std.specs.Option.{option_and_then, option_or};
 ghost use Rattle.relation_fields.specs.Fields.{said_in};
-ghost use Rattle.repo_model.specs.{Fields.{field_among, value_among, IsShort}, FirstFault.{unless_said}, Refusals.{Answers}};
+ghost use Rattle.repo_model.specs.Fields.{field_among, value_among, IsShort};
+ghost use Rattle.repo_model.specs.{FirstFault.{unless_said}, Refusals.{Answers}};
 
 use crate::fault::IndexFault;
 use crate::fields::find_field;

@@ -2,12 +2,14 @@
 //!
 //! The clause of each distinct element is made once, and all clauses are put in order once
 //! (ranks.rt).
-ghost use Rattle.std.specs.Prelude.{◌≡◌, ◌<◌, ◌∷◌, ◌↔◌, ℕ, [], IfOk, OnOk, map, length, slice_index_or};
+ghost use Rattle.std.specs.Prelude.{◌≡◌, ◌<◌, ◌∷◌, ◌↔◌, ℕ, [], IfOk, OnOk, map, length};
+ghost use Rattle.std.specs.Prelude.{slice_index_or};
 ghost use Rattle.clause_pool.specs.{Interned.{Kept}, Clauses.{in_row_order}};
 ghost use Rattle.listed.specs.Lists.{Ascending, In};
 ghost use Rattle.relation_fields.specs.Elements.{elements_of};
 ghost use Rattle.virtual_provides.specs.Bearers.{IsBuiltFrom};
-ghost use Rattle.repo_model.specs.{Interning.{HasIds, HasRows}, Needs.{needs_of_all}, Ranks.{clauses_marked, ids_of_ranks, IsRanking}};
+ghost use Rattle.repo_model.specs.{Interning.{HasIds, HasRows}, Needs.{needs_of_all}};
+ghost use Rattle.repo_model.specs.Ranks.{clauses_marked, ids_of_ranks, IsRanking};
 ghost use Rattle.repo_model.specs.Repository.{clause_of, row_of};
 
 use crate::clauses::element_clause;

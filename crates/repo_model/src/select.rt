@@ -1,8 +1,10 @@
 //! The suite of some packages of a suite.
-ghost use Rattle.std.specs.{Prelude.{◌≡◌, ◌∷◌, ◌++◌, ◌+◌, ◌<◌, ◌≤◌, ℕ, [], None, length, slice_index_or, IfOk, OnOk}, List.{items_where_true}};
+ghost use Rattle.std.specs.Prelude.{◌≡◌, ◌∷◌, ◌++◌, ◌+◌, ◌<◌, ◌≤◌, ℕ, [], None, length};
+ghost use Rattle.std.specs.{Prelude.{slice_index_or, IfOk, OnOk}, List.{items_where_true}};
 ghost use Rattle.relation_fields.specs.{Elements.{elements_of}, Shared.{marked}};
 ghost use Rattle.listed.specs.Lists.{In};
-ghost use Rattle.repo_model.specs.{Limits.{most_packages}, Needs.{needs_of_all}, Select.{AreRenamed}};
+ghost use Rattle.repo_model.specs.{Limits.{most_packages}, Needs.{needs_of_all}};
+ghost use Rattle.repo_model.specs.Select.{AreRenamed};
 
 use crate::copying::{copy_of_facts, copy_of_home};
 use crate::suite::{PackageList, Suite};

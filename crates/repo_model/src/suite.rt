@@ -1,9 +1,12 @@
 //! Suites, and how they are read.
-ghost use Rattle.std.specs.{Prelude.{◌≡◌, ◌≤◌, ◌<◌, length, map, None, Some, slice_get, IfOk, IfErr, OnOk}, Option.{option_map}};
+ghost use Rattle.std.specs.Prelude.{◌≡◌, ◌≤◌, ◌<◌, length, map, None, Some, slice_get, IfOk, IfErr};
+ghost use Rattle.std.specs.{Prelude.{OnOk}, Option.{option_map}};
 ghost use Rattle.relation_fields.specs.Elements.{elements_of};
 ghost use Rattle.virtual_provides.specs.Bearers.{IsBuiltFrom, IsBuiltFrom-prop};
-ghost use Rattle.repo_model.specs.{Facts.{facts_of, AreNamedPackages}, FirstFault.{first_fault, home_of, stanzas_of}, Refusals.{Refuses}};
-ghost use Rattle.repo_model.specs.{Limits.{most_bytes, most_packages}, Needs.{needs_of_all, needs-prop}};
+ghost use Rattle.repo_model.specs.Facts.{facts_of, AreNamedPackages};
+ghost use Rattle.repo_model.specs.FirstFault.{first_fault, home_of, stanzas_of};
+ghost use Rattle.repo_model.specs.{Refusals.{Refuses}, Limits.{most_bytes, most_packages}};
+ghost use Rattle.repo_model.specs.Needs.{needs_of_all, needs-prop};
 
 use crate::building::Building;
 use crate::fault::IndexFault;

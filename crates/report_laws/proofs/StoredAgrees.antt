@@ -1,5 +1,6 @@
 -- The kernel text of an index answers goals as the index does.
-use Rattle.std.proofs.Common.{◌≡◌, ℕ, ◌+◌, ◌<◌, ◌≤◌, Bool, true, false, cond, eqb, eqb-true, eq-eqb, nat_lt, List, [], ◌∷◌, length, map, slice_index_or, Option, Some, None, refl, sym, ap, ap₂, subst, ◌∙◌}
+use Rattle.std.proofs.Common.{◌≡◌, ℕ, ◌+◌, ◌<◌, ◌≤◌, Bool, true, false, cond, eqb, eqb-true, eq-eqb, nat_lt, List, [], ◌∷◌, length, map, slice_index_or, Option}
+use Rattle.std.proofs.Common.{Some, None, refl, sym, ap, ap₂, subst, ◌∙◌}
 use Rattle.std.specs.List.{list_any, position_from}
 use Rattle.listed.proofs.{Bools.{same_bool}, Lists.{In_has, any_cases, any_from, filter_same, has_In}}
 use Rattle.byte_flow.specs.Flow.{Files}

@@ -2,7 +2,9 @@
 -- and their goals are known.
 use Rattle.std.specs.Prelude.{◌≡◌, ◌↔◌, ℕ, false, List, Some, None}
 use Rattle.byte_flow.specs.Flow.{Files}
-use Rattle.coinst_words.specs.{declared.job.Job.{Job}, declared.job.Job.TheVariants.{Kernel, Query, StoredQuery, Compare, Explain, Status, Migrate, Sample}}
+use Rattle.coinst_words.specs.declared.job.Job.{Job}
+use Rattle.coinst_words.specs.declared.job.Job.TheVariants.{Kernel, Query, StoredQuery, Compare}
+use Rattle.coinst_words.specs.declared.job.Job.TheVariants.{Explain, Status, Migrate, Sample}
 use Rattle.kernel_text.specs.Images.{unknown_goal as unknown_in_kernel}
 use Rattle.kernel_text.specs.KernelReads.{KernelContent, KernelReads}
 use Rattle.migrate_plan.specs.Refusals.{plan_refusal}
@@ -11,8 +13,10 @@ use Rattle.sample_suite.specs.SampleText.{sample_text}
 use Rattle.status_check.specs.Own.{status_fault}
 use Rattle.suite_compare.specs.{Answering.{unknown_goal}, Refusals.{home_in, packages_in}}
 use Rattle.coinst_words.specs.Jobs.{IsInLimits, job_of}
-use Rattle.coinst_run.specs.{declared.answer.ReportVerdict.{ReportVerdict}, Answer.{reported}, Meaning.{outcome_for}, Outcome.{Outcome, answered}}
-use Rattle.coinst_run.specs.{Sample.{sample_limit}, Present.{HasFile, HasIndex, HasKernel, IsWithinLimit}}
+use Rattle.coinst_run.specs.{declared.answer.ReportVerdict.{ReportVerdict}, Answer.{reported}}
+use Rattle.coinst_run.specs.{Meaning.{outcome_for}, Outcome.{Outcome, answered}}
+use Rattle.coinst_run.specs.Sample.{sample_limit}
+use Rattle.coinst_run.specs.Present.{HasFile, HasIndex, HasKernel, IsWithinLimit}
 
 -- each goal names a package of the index
 abbrev pub AreKnown : List ℕ → List Goal → Type 0

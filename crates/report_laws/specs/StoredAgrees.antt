@@ -1,15 +1,20 @@
 -- The kernel text that is printed of an index answers goals as the index does.
 use Rattle.std.specs.Prelude.{◌≡◌, ℕ, ◌≤◌, Bool, false, List, length, Some, None}
 use Rattle.byte_flow.specs.Flow.{Files}
-use Rattle.kernel_text.specs.{KernelReads.{KernelReads, content}, declared.member.Member.{Member}, Serving.{images_in}}
+use Rattle.kernel_text.specs.{KernelReads.{KernelReads, content}, declared.member.Member.{Member}}
+use Rattle.kernel_text.specs.Serving.{images_in}
 use Rattle.repo_model.specs.{FirstFault.{first_fault}, declared.goals.Goal.{Goal}}
 use Rattle.row_book.specs.Repository.{Repository}
 use Rattle.search_terms.specs.declared.literals.Literal.{Literal}
 use Rattle.suite_compare.specs.{Asking.{images_of, installation}, Refusals.{home_in, packages_in}}
-use Rattle.coinst_run.specs.{declared.answer.Cause.TheVariants.{UnknownGoal}, declared.answer.ReportVerdict.{ReportVerdict}}
-use Rattle.coinst_run.specs.{declared.answer.ReportVerdict.TheVariants.{Done, Negative, Undecided}, Answer.{Answer, refused, reported}, Index.{Index, index_in}}
-use Rattle.coinst_run.specs.{IndexKernel.{index_kernel, text_for}, Kernel.{kernel_course}, Outcome.{answered, file_limit, outcome_over}, Query.{query_course}}
-use Rattle.coinst_run.specs.{QueryText.{no_text, undecided_text, yes_text}, StoredQuery.{classes_text, stored_query_course}}
+use Rattle.coinst_run.specs.declared.answer.Cause.TheVariants.{UnknownGoal}
+use Rattle.coinst_run.specs.declared.answer.ReportVerdict.{ReportVerdict}
+use Rattle.coinst_run.specs.declared.answer.ReportVerdict.TheVariants.{Done, Negative, Undecided}
+use Rattle.coinst_run.specs.{Answer.{Answer, refused, reported}, Index.{Index, index_in}}
+use Rattle.coinst_run.specs.{IndexKernel.{index_kernel, text_for}, Kernel.{kernel_course}}
+use Rattle.coinst_run.specs.{Outcome.{answered, file_limit, outcome_over}, Query.{query_course}}
+use Rattle.coinst_run.specs.QueryText.{no_text, undecided_text, yes_text}
+use Rattle.coinst_run.specs.StoredQuery.{classes_text, stored_query_course}
 
 -- Two answers to goals, the first over an index and the second over a stored kernel, are one. Both
 -- are no with the same log, or undecided, or refuse an unknown goal with the same line. Or both are

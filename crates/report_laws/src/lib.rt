@@ -1,10 +1,15 @@
-//! The laws of reports: when a command is answered by one, what each one says, and that a stored
-//! kernel answers as its index does. The functions do nothing: the contract of each is one law.
+//! The laws of reports: when the answer to a command is a report, what each report says, and that a
+//! stored kernel answers as its index does. The functions do nothing: the contract of each is one
+//! law.
 #![tactic(auto)]
 
-ghost use Rattle.coinst_run.specs.{CompareMeaning.{CompareIsMeant}, ExplainMeaning.{ExplainIsMeant}, MigrateMeaning.{MigrateIsMeant}};
-ghost use Rattle.coinst_run.specs.{QueryMeaning.{QueryIsMeant}, StoredMeaning.{StoredQueryIsMeant}, SystemMeaning.{SystemIsMeant}};
-ghost use Rattle.report_laws.specs.{Complete.{CompleteJobsReport}, StoredAgrees.{StoredAnswersAsIndex, StoredImagesAreOfIndex}};
+ghost use Rattle.coinst_run.specs.CompareMeaning.{CompareIsMeant};
+ghost use Rattle.coinst_run.specs.ExplainMeaning.{ExplainIsMeant};
+ghost use Rattle.coinst_run.specs.{MigrateMeaning.{MigrateIsMeant}, QueryMeaning.{QueryIsMeant}};
+ghost use Rattle.coinst_run.specs.StoredMeaning.{StoredQueryIsMeant};
+ghost use Rattle.coinst_run.specs.SystemMeaning.{SystemIsMeant};
+ghost use Rattle.report_laws.specs.Complete.{CompleteJobsReport};
+ghost use Rattle.report_laws.specs.StoredAgrees.{StoredAnswersAsIndex, StoredImagesAreOfIndex};
 
 /// Words that ask for a job are answered by a report exactly if its files are there, accepted and
 /// within the limits, and its goals are known.

@@ -1,6 +1,6 @@
 -- What one list has and another does not, while both are walked.
-use Rattle.std.proofs.Common.{◌≡◌, ℕ, ◌<◌, ◌+◌, ◌-◌, true, List, [], ◌∷◌, ◌++◌, ◌⊎◌, inl, inr, refl, sym, ◌∙◌, ap, subst, length, get_or, take, drop, length-drop, arith}
-use Rattle.std.proofs.lemmas.List.{take_all, take_more, take-append-drop}
+use Rattle.std.proofs.Common.{◌≡◌, ℕ, ◌<◌, ◌+◌, ◌-◌, true, List, [], ◌∷◌, ◌++◌, ◌⊎◌, inl, inr, refl, sym, ◌∙◌, ap, subst, length, get_or, take, drop}
+use Rattle.std.proofs.{Common.{length-drop, arith}, lemmas.List.{take_all, take_more, take-append-drop}}
 use Rattle.clause_pool.specs.Interned.{Interned, clause_at, clauses_at}
 use Rattle.listed.specs.Lists.{In, here, has}
 use Rattle.row_book.specs.Uses.{HoldsDifference, some_holds}

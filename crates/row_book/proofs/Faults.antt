@@ -1,6 +1,6 @@
 -- What the tests of a set of packages find.
-use Rattle.std.proofs.Common.{◌≡◌, ℕ, zero, suc, ◌<◌, ◌≤◌, ◌+◌, Bool, true, false, ◌&&◌, ltb, List, [], ◌∷◌, ◌++◌, length, take, get_or, Some, None, cond, ◌⊎◌, inl, inr, refl, sym, ◌∙◌, ap, subst, arith}
-use Rattle.std.proofs.lemmas.Bool.{and_parts, and_from, both_ways, cases_lt, cases_eq, lt-ltb, ltb-true}
+use Rattle.std.proofs.Common.{◌≡◌, ℕ, zero, suc, ◌<◌, ◌≤◌, ◌+◌, Bool, true, false, ◌&&◌, ltb, List, [], ◌∷◌, ◌++◌, length, take, get_or, Some, None, cond, ◌⊎◌}
+use Rattle.std.proofs.{Common.{inl, inr, refl, sym, ◌∙◌, ap, subst, arith}, lemmas.Bool.{and_parts, and_from, both_ways, cases_lt, cases_eq, lt-ltb, ltb-true}}
 use Rattle.std.specs.List.{find, list_any}
 use Rattle.std.proofs.lemmas.List as lists
 use Rattle.std.proofs.lemmas.List.{length-map, map_more}

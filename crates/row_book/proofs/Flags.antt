@@ -1,7 +1,8 @@
 -- Rows of flags and the sets that they stand for.
-use Rattle.std.proofs.Common.{◌≡◌, ℕ, zero, suc, ◌<◌, ◌+◌, ◌-◌, Bool, true, false, not, ◌&&◌, ◌||◌, ◌↔◌, List, [], ◌∷◌, ◌++◌, length, get_or, ◌⊎◌, inl, inr, refl, ◌∙◌, sym, ap, subst, arith}
-use Rattle.std.proofs.lemmas.Bool.{or_cases, or_left, or_right, and_parts, and_from, both_ways, cases_Bool, cases_lt, not-true, not_from_false, false_from_ne_true, false≢true}
-use Rattle.std.proofs.lemmas.List.{append_assoc, get_or_past}
+use Rattle.std.proofs.Common.{◌≡◌, ℕ, zero, suc, ◌<◌, ◌+◌, ◌-◌, Bool, true, false, not, ◌&&◌, ◌||◌, ◌↔◌, List, [], ◌∷◌, ◌++◌, length, get_or, ◌⊎◌, inl, inr}
+use Rattle.std.proofs.Common.{refl, ◌∙◌, sym, ap, subst, arith}
+use Rattle.std.proofs.lemmas.Bool.{or_cases, or_left, or_right, and_parts, and_from, both_ways, cases_Bool, cases_lt, not-true, not_from_false}
+use Rattle.std.proofs.{lemmas.Bool.{false_from_ne_true, false≢true}, lemmas.List.{append_assoc, get_or_past}}
 use Rattle.std.specs.List.{list_all, list_any, zip}
 use Rattle.row_book.specs.{Sets.{NumSet, Is, Hit}, Repository.{Coinst}, Flags.{flag, hits_row, is_abundant, is_peaceful, is_solution, Extends}}
 use Rattle.listed.specs.Lists.{In, has}

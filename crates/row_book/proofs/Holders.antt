@@ -1,11 +1,11 @@
 -- Tables of clauses: how they are made and changed, and what they tell of rows.
-use Rattle.std.proofs.Common.{◌≡◌, ◌≢◌, ℕ, zero, suc, ◌<◌, ◌≤◌, ◌+◌, Bool, true, List, [], ◌∷◌, ◌++◌, inl, inr, refl, sym, ◌∙◌, ap, ap₂, subst, arith, ◌||◌, eqb, filter, length, get_or, take, zero-le}
-use Rattle.std.proofs.{lemmas.Bool.{cases_eq}, lemmas.List.{get_or-set_same, get_or-set_other, length-set, take_more}}
-use Rattle.std.proofs.lemmas.List.Folds.{list_any_more, list_any-append}
+use Rattle.std.proofs.Common.{◌≡◌, ◌≢◌, ℕ, zero, suc, ◌<◌, ◌≤◌, ◌+◌, Bool, true, List, [], ◌∷◌, ◌++◌, inl, inr, refl, sym, ◌∙◌, ap, ap₂, subst, arith, ◌||◌}
+use Rattle.std.proofs.{Common.{eqb, filter, length, get_or, take, zero-le}, lemmas.Bool.{cases_eq}}
+use Rattle.std.proofs.{lemmas.List.{get_or-set_same, get_or-set_other, length-set, take_more}, lemmas.List.Folds.{list_any_more, list_any-append}}
 use Rattle.std.specs.{Global.{Vec}, List.{slice_set, list_any}, List.Retain.{DiffersFromLast, IsFiltered}, List.Sorted.{IsNonDecreasing}}
 use Rattle.listed.proofs.Bools.{same_bool}
-use Rattle.listed.proofs.Lists.{empty_or, In_append_cases, In_append_left, In_append_right, In_cases, In_has, In_none, any_cases, any_from, decided_in, filter_cases, filter_from, has_In}
-use Rattle.listed.proofs.Orders.{ascending_filter}
+use Rattle.listed.proofs.Lists.{empty_or, In_append_cases, In_append_left, In_append_right, In_cases, In_has, In_none, any_cases, any_from, decided_in}
+use Rattle.listed.proofs.{Lists.{filter_cases, filter_from, has_In}, Orders.{ascending_filter}}
 use Rattle.clause_pool.specs.Interned.{Interned, Kept, clause_at}
 use Rattle.listed.specs.Lists.{In, here, has}
 use Rattle.row_book.specs.{Book.{listed_for}, Numbers.{numbers}, Uses.{HoldsDifference, IsListOf, lists_in, list_in}}

@@ -1,5 +1,6 @@
 -- A number that is put into an ascending list or taken out of it.
-use Rattle.std.proofs.Common.{◌≡◌, ℕ, zero, suc, ◌<◌, ◌≤◌, ◌-◌, Bool, true, false, not, eqb, List, [], ◌∷◌, inl, inr, sym, ◌∙◌, ap, ap₂, subst, arith, ◌&&◌, ◌||◌, length, take, drop, get_or, ne_eqb, eq-eqb, Result, Ok, Err, if◌then◌else◌}
+use Rattle.std.proofs.Common.{◌≡◌, ℕ, zero, suc, ◌<◌, ◌≤◌, ◌-◌, Bool, true, false, not, eqb, List, [], ◌∷◌, inl, inr, sym, ◌∙◌, ap, ap₂, subst, arith, ◌&&◌}
+use Rattle.std.proofs.Common.{◌||◌, length, take, drop, get_or, ne_eqb, eq-eqb, Result, Ok, Err, if◌then◌else◌}
 use Rattle.std.proofs.{Math.Bool.{or_assoc, or_comm, or-false, and-true, and-false}, lemmas.Bool.{cases_eq, false≢true}, lemmas.List.Sorted.{searched}}
 use Rattle.std.specs.{List.{insert, remove}, List.Sorted.{IsBinarySearchResult}, Ordering.{nat_cmp}, Result.{IsOk, is_ok}}
 use Rattle.listed.proofs.Orders.{ascending_places, missed_not_there, ascending_same}

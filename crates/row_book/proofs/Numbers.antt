@@ -1,6 +1,6 @@
 -- Numbers in a row, and the families of all sets of them.
-use Rattle.std.proofs.Common.{◌≡◌, ℕ, zero, suc, ◌<◌, ◌≤◌, ◌+◌, List, [], ◌∷◌, ◌++◌, length, inl, inr, refl, sym, ◌∙◌, ap, ap₂, subst, arith, map, zero-le, slice_index_or}
-use Rattle.std.proofs.{lemmas.Bool.{cases_eq}, lemmas.List.{map-append}}
+use Rattle.std.proofs.Common.{◌≡◌, ℕ, zero, suc, ◌<◌, ◌≤◌, ◌+◌, List, [], ◌∷◌, ◌++◌, length, inl, inr, refl, sym, ◌∙◌, ap, ap₂, subst, arith, map, zero-le}
+use Rattle.std.proofs.{Common.{slice_index_or}, lemmas.Bool.{cases_eq}, lemmas.List.{map-append}}
 use Rattle.std.specs.List.{range_with_len}
 use Rattle.listed.specs.Lists.{In, here, there, Ascending}
 use Rattle.clause_pool.specs.Lists.{Before, InOrder}

@@ -1,12 +1,14 @@
 -- Pairs in order, and the lists of conflicts that they make.
-use Rattle.std.proofs.Common.{◌≡◌, ◌≢◌, ℕ, zero, suc, ◌<◌, ◌≤◌, ◌+◌, Bool, true, false, ◌&&◌, ◌||◌, eqb, ltb, nat_cmp, cond, List, [], ◌∷◌, ◌++◌, length, map, filter, take, Some, get_or, ◌⊎◌, inl, inr, refl, sym, ◌∙◌, ap, subst, eq-eqb, eqb-true, add-one, zero-add, arith}
+use Rattle.std.proofs.Common.{◌≡◌, ◌≢◌, ℕ, zero, suc, ◌<◌, ◌≤◌, ◌+◌, Bool, true, false, ◌&&◌, ◌||◌, eqb, ltb, nat_cmp, cond, List, [], ◌∷◌, ◌++◌, length, map}
+use Rattle.std.proofs.Common.{filter, take, Some, get_or, ◌⊎◌, inl, inr, refl, sym, ◌∙◌, ap, subst, eq-eqb, eqb-true, add-one, zero-add, arith}
 use Rattle.std.proofs.lemmas.Bool.{or_cases, or_left, or_right, and_parts, and_from, cases_eq, cases_lt, both_ways, false≢true, ltb-false, eqb-false}
 use Rattle.std.proofs.{lemmas.List.{ext_get_or, get_or_past, take_more}, lemmas.List.Elements.{All-from_get_or}}
 use Rattle.std.proofs.lemmas.List.Sorted.{All-permutation, list_any-IsPermutation}
 use Rattle.std.specs.{List.{slice_get, All}, List.Sorted.{IsPermutation}, Ordering.{is_lt, ordering_then}}
 use Rattle.std.specs.declared.cmp.Ordering.TheVariants.{Less, Equal, Greater}
 use Rattle.listed.proofs.Orders.{ascending_push, ascending_same, ascending_filter}
-use Rattle.listed.proofs.Lists.{In_cases, In_none, In_at, In_has, has_In, has_not, any_from, any_cases, In_append_cases, In_append_left, In_append_right, filter_from, filter_cases, in_take}
+use Rattle.listed.proofs.Lists.{In_cases, In_none, In_at, In_has, has_In, has_not, any_from, any_cases, In_append_cases, In_append_left, In_append_right}
+use Rattle.listed.proofs.Lists.{filter_from, filter_cases, in_take}
 use Rattle.row_book.specs.{declared.pair.Pair.{Pair}, Numbers.{numbers}, Book.{listed_for, are_paired, lists_of_pairs, AreConflicts, PairsFit}}
 use Rattle.row_book.specs.Pairs.{NoLater, Rising, is_last, with_last, Entered, ListsPairs}
 use Rattle.listed.specs.Lists.{In, here, there, Ascending}

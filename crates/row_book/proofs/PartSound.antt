@@ -8,7 +8,8 @@ use Rattle.clause_pool.proofs.Order.{ordered_parts}
 use Rattle.row_book.specs.{Book.{listed_for, AreConflicts}, declared.book.Book.{Book}, Flags.{flag}, Repository.{Repository, clauses_of}}
 use Rattle.row_book.specs.{Sound.{SoundRepository}, Parts.{chosen_in, part, place_in, row_in}}
 use Rattle.row_book.proofs.Books.{in_listed}
-use Rattle.row_book.proofs.Placed.{count_in, at_place, chosen_ascending, chosen_cases, chosen_count, chosen_from, chosen_item, place_below, place_same, HasPlace, IsChosen}
+use Rattle.row_book.proofs.Placed.{count_in, at_place, chosen_ascending, chosen_cases, chosen_count, chosen_from, chosen_item, place_below, place_same}
+use Rattle.row_book.proofs.Placed.{HasPlace, IsChosen}
 
 -- what is made of the items of the chosen packages, at the place of each
 pub made_at : {X Y : Type 0} (f : X → Y) (flags : List Bool) (xs : List X) (d : X) (e : Y) → length flags ≡ length xs → (n : ℕ) → flag flags n ≡ true

@@ -1,18 +1,14 @@
 -- What the part of some packages has of one of them.
-use Rattle.std.proofs.Common.{◌≡◌, ℕ, zero, suc, ◌<◌, Bool, true, false, cond, List, [], ◌∷◌, length, map, filter, inl, inr, refl, sym, ◌∙◌, ap, ap₂, subst, arith}
+use Rattle.std.proofs.Common.{◌≡◌, ℕ, zero, suc, ◌<◌, Bool, true, false, cond, List, [], ◌∷◌, length, map, filter, inl, inr, refl, sym, ◌∙◌, ap, subst, arith}
 use Rattle.std.proofs.{lemmas.Bool.{false≢true}, lemmas.List.{get_or-map, length-map}, lemmas.Simd.{map-map}}
 use Rattle.std.specs.List.{items_where_true}
 use Rattle.clause_pool.specs.{Clauses.{in_row_order}, Lists.{Before, InOrder}}
 use Rattle.clause_pool.proofs.Order.{order_same, ordered_has, ordered_order, ordered_parts}
 use Rattle.listed.specs.Lists.{In, here, there}
-use Rattle.listed.proofs.Lists.{In_has, In_map, In_map_cases}
+use Rattle.listed.proofs.Lists.{In_has, In_map, In_map_cases, map_alike, map_own}
 use Rattle.row_book.specs.{Flags.{flag}, Parts.{chosen_in, part, place_in, row_in}, Repository.{Repository, clauses_of, conflicts_of}, Sets.{NumSet}}
 use Rattle.row_book.specs.Sound.{SoundRepository}
 use Rattle.row_book.proofs.{PartSound.{made_at, made_count}, Placed.{count_in, place_rises}, Repositories.{between, ranged, repository_same, table_same}}
-
-pub map_alike : {A B : Type 0} (f g : A → B) (xs : List A) → ((x : A) → In x xs → f x ≡ g x) → map f xs ≡ map g xs
-map_alike f g [] e = refl
-map_alike f g (x ∷ xs) e = ap₂ (λ y ys. y ∷ ys) (e x here) (map_alike f g xs (λ y i. e y (there i)))
 
 -- clauses whose numbers are told in two steps
 pub clauses_through : (f g h : ℕ → ℕ) (cs : List (List ℕ)) → ((c : List ℕ) → In c cs → (n : ℕ) → In n c → f (g n) ≡ h n) → map (map f) (map (map g) cs) ≡ map (map h) cs
@@ -100,10 +96,6 @@ items_all [] (x ∷ xs) up e = absurd (omega (arith, e))
 items_all (b ∷ flags) [] up e = absurd (omega (arith, e))
 items_all (false ∷ flags) (x ∷ xs) up e = absurd (false≢true (up 0 (omega arith)))
 items_all (true ∷ flags) (x ∷ xs) up e = ap (λ ys. x ∷ ys) (items_all flags xs (λ j m. up (suc j) (omega arith)) (omega (arith, e)))
-
-map_own : {A : Type 0} (f : A → A) (xs : List A) → ((x : A) → In x xs → f x ≡ x) → map f xs ≡ xs
-map_own f [] e = refl
-map_own f (x ∷ xs) e = ap₂ (λ y ys. y ∷ ys) (e x here) (map_own f xs (λ y i. e y (there i)))
 
 module _ (R : Repository) (s : SoundRepository R) (order : (p : ℕ) → p < length R.clauses → InOrder (clauses_of R p)) (flags : List Bool) (size : length flags ≡ length R.clauses)
     (up : (k : ℕ) → k < length flags → flag flags k ≡ true) where

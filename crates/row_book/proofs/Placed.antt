@@ -1,7 +1,7 @@
 -- The places of chosen packages among the chosen ones, and the items of a list at them.
-use Rattle.std.proofs.Common.{◌≡◌, ℕ, zero, suc, ◌<◌, ◌+◌, Bool, true, false, cond, List, [], ◌∷◌, ◌++◌, length, get_or, take, map, filter, inl, inr, refl, sym, ◌∙◌, ap, ap₂, subst, arith, add-one, append-nil}
-use Rattle.std.proofs.{lemmas.Bool.{cases_eq, cases_lt, false≢true}, lemmas.List.{map-append}, lemmas.List.Elements.{filter_more}}
-use Rattle.std.proofs.lemmas.List.Filters.{length-filter_more}
+use Rattle.std.proofs.Common.{◌≡◌, ℕ, zero, suc, ◌<◌, ◌+◌, Bool, true, false, cond, List, [], ◌∷◌, ◌++◌, length, get_or, take, map, filter, inl, inr, refl, sym}
+use Rattle.std.proofs.{Common.{◌∙◌, ap, ap₂, subst, arith, add-one, append-nil}, lemmas.Bool.{cases_eq, cases_lt, false≢true}, lemmas.List.{map-append}}
+use Rattle.std.proofs.{lemmas.List.Elements.{filter_more}, lemmas.List.Filters.{length-filter_more}}
 use Rattle.std.specs.List.{items_where_true}
 use Rattle.listed.specs.Lists.{In, here, there, Ascending}
 use Rattle.listed.proofs.{Lists.{In_map, In_map_cases, filter_cases, filter_from}, Orders.{ascending_filter}}

@@ -1,6 +1,6 @@
 -- Sound repositories: their tests of conflicts, and when two of them are the same.
-use Rattle.std.proofs.Common.{◌≡◌, ℕ, suc, ◌<◌, ◌≤◌, ◌+◌, Bool, true, ◌&&◌, List, [], ◌∷◌, length, inl, inr, refl, sym, ◌∙◌, ap₂, subst, arith, filter, slice_index_or, eqb, zero-le, ◌↔◌}
-use Rattle.std.proofs.{lemmas.Bool.{and_from, and_parts, cases_lt}, lemmas.List.{get_or_past}}
+use Rattle.std.proofs.Common.{◌≡◌, ℕ, suc, ◌<◌, ◌≤◌, ◌+◌, Bool, true, ◌&&◌, List, [], ◌∷◌, length, inl, inr, refl, sym, ◌∙◌, ap₂, subst, arith, filter}
+use Rattle.std.proofs.{Common.{slice_index_or, eqb, zero-le, ◌↔◌}, lemmas.Bool.{and_from, and_parts, cases_lt}, lemmas.List.{get_or_past}}
 use Rattle.std.specs.Cmp.Lexicographic.{pointwise, pointwise_decides, bytes_decides}
 use Rattle.listed.proofs.{Bools.{same_bool}, Lists.{In_has, has_In, filter_cases, filter_from}, Orders.{ascending_same}}
 use Rattle.row_book.specs.{Sets.{NumSet, Hit}, Repository.{Repository, Healthy, Coinst, against, clauses_of, conflicts_of}, Flattening.{packages}}

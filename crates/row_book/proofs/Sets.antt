@@ -1,6 +1,7 @@
 -- Sets as tests.
 use Rattle.std.proofs.Common.{◌≡◌, ◌≢◌, ℕ, true, false, not, eqb, List, ◌⊎◌, inl, inr, eq-eqb, eqb-true, ne_eqb}
-use Rattle.std.proofs.lemmas.Bool.{or_cases, or_left, or_right, and_parts, and_from, and_cases, and_left, and_right, not_from_false, not_from_true, not-true, not-false, eqb-false}
+use Rattle.std.proofs.lemmas.Bool.{or_cases, or_left, or_right, and_parts, and_from, and_cases, and_left, and_right, not_from_false, not_from_true, not-true}
+use Rattle.std.proofs.lemmas.Bool.{not-false, eqb-false}
 use Rattle.listed.specs.Lists.{In, Inside}
 use Rattle.clause_pool.specs.Clauses.{minimal_of}
 use Rattle.clause_pool.proofs.Clauses.{minimal_below}

@@ -1,7 +1,8 @@
 -- Tables of lists of numbers: what a change of one list leaves of the others.
-use Rattle.std.proofs.Common.{◌≡◌, ◌≢◌, ℕ, zero, suc, ◌<◌, ◌≤◌, ◌+◌, ◌-◌, Bool, true, false, not, eqb, List, [], ◌∷◌, ◌++◌, ◌⊎◌, inl, inr, refl, sym, ◌∙◌, ap, ap₂, subst, arith, ◌&&◌, ◌||◌, length, take, get_or, map, ne_eqb, eq-eqb, eqb-true, vec_capacity, vec_len}
-use Rattle.std.proofs.{Math.Bool.{or-false}, lemmas.Bool.{cases_eq, or_right, and_from, false≢true}}
-use Rattle.std.proofs.{lemmas.List.{map-set, get_or-set_same, get_or-set_other, get_or-map, length-map}, lemmas.List.Folds.{list_any_more, list_any-append}}
+use Rattle.std.proofs.Common.{◌≡◌, ◌≢◌, ℕ, zero, suc, ◌<◌, ◌≤◌, ◌+◌, ◌-◌, Bool, true, false, not, eqb, List, [], ◌∷◌, ◌++◌, ◌⊎◌, inl, inr, refl, sym, ◌∙◌, ap}
+use Rattle.std.proofs.{Common.{ap₂, subst, arith, ◌&&◌, ◌||◌, length, take, get_or, map, ne_eqb, eq-eqb, eqb-true, vec_capacity, vec_len}, Math.Bool.{or-false}}
+use Rattle.std.proofs.{lemmas.Bool.{cases_eq, or_right, and_from, false≢true}, lemmas.List.{map-set, get_or-set_same, get_or-set_other, get_or-map, length-map}}
+use Rattle.std.proofs.lemmas.List.Folds.{list_any_more, list_any-append}
 use Rattle.std.specs.{Global.{Vec}, List.{slice_set, list_any}}
 use Rattle.clause_pool.specs.Interned.{Interned, clause_at}
 use Rattle.listed.specs.Lists.{has, Ascending}

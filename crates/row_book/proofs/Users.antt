@@ -1,6 +1,6 @@
 -- The users of numbers: as members of lists, and after a row has changed.
-use Rattle.std.proofs.Common.{◌≡◌, ℕ, suc, ◌<◌, ◌≤◌, ◌+◌, Bool, true, false, not, eqb, ltb, List, [], ◌∷◌, ◌⊎◌, inl, inr, refl, sym, ◌∙◌, ap, ap₂, subst, arith, ◌&&◌, ◌||◌, length, get_or, map, ne_eqb, eq-eqb, take, drop, ◌++◌, append-nil}
-use Rattle.std.proofs.Math.Bool.{or-false, and-true, and-false}
+use Rattle.std.proofs.Common.{◌≡◌, ℕ, suc, ◌<◌, ◌≤◌, ◌+◌, Bool, true, false, not, eqb, ltb, List, [], ◌∷◌, ◌⊎◌, inl, inr, refl, sym, ◌∙◌, ap, ap₂, subst, arith}
+use Rattle.std.proofs.{Common.{◌&&◌, ◌||◌, length, get_or, map, ne_eqb, eq-eqb, take, drop, ◌++◌, append-nil}, Math.Bool.{or-false, and-true, and-false}}
 use Rattle.std.proofs.lemmas.Bool.{false≢true, cases_Bool, cases_eq, both_ways, and_parts, and_from, or_left, or_right, ltb-true, ltb-false, lt-ltb, le-ltb}
 use Rattle.std.proofs.{lemmas.List.{get_or-set_same, get_or-set_other, length-set, length-map, drop_all, take_all}, lemmas.Grind.{get_or_default_zero}}
 use Rattle.std.specs.{Global.{Vec}, List.{slice_set}}

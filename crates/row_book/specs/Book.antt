@@ -1,10 +1,12 @@
 -- Books: what a book of rows means for the pool that its rows are of.
-use Rattle.std.specs.{Prelude.{◌≡◌, ℕ, ◌<◌, Bool, true, false, ◌&&◌, ◌||◌, eqb, List, [], length, map, filter, slice_index_or}, List.{list_any}}
+use Rattle.std.specs.Prelude.{◌≡◌, ℕ, ◌<◌, Bool, true, false, ◌&&◌, ◌||◌, eqb, List, [], length}
+use Rattle.std.specs.{Prelude.{map, filter, slice_index_or}, List.{list_any}}
 use Rattle.clause_pool.specs.Interned.{Interned, IsPool, row_at}
 pub use Rattle.clause_pool.specs.Compacting.{AddsOnly}
 use Rattle.clause_pool.specs.Compacting.{RowsOf}
 use Rattle.listed.specs.Lists.{In, has, Ascending, Inside}
-use Rattle.row_book.specs.{Numbers.{numbers}, Uses.{row_id}, Repository.{Repository}, declared.book.Book.{Book}, declared.pair.Pair.{Pair}}
+use Rattle.row_book.specs.{Numbers.{numbers}, Uses.{row_id}, Repository.{Repository}}
+use Rattle.row_book.specs.{declared.book.Book.{Book}, declared.pair.Pair.{Pair}}
 
 -- the repository of a book: for each package the clauses of its row, and the packages that conflict
 -- with it

@@ -1,5 +1,5 @@
--- Packages that exclude each other by what they need: a healthy set with the package has a member
--- of each of the package's sides.
+-- Packages that exclude each other by what they need. The sides of a package are the package alone
+-- and each of its clauses. A healthy set with the package has a member of each side.
 use Rattle.std.specs.{Prelude.{ℕ, Bool, List, [], ◌∷◌, filter}, List.{list_all, list_any}}
 use Rattle.listed.specs.Lists.{has}
 use Rattle.row_book.specs.{Book.{listed_for}, Repository.{Repository, clauses_of}}

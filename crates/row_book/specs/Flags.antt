@@ -1,5 +1,6 @@
 -- Sets of packages as rows of flags, one flag for each package, and the tests for healthy ones.
-use Rattle.std.specs.{Prelude.{◌≡◌, ℕ, Bool, true, false, not, ◌&&◌, ◌||◌, List, ◌++◌, length, slice_index_or}, List.{list_all, list_any, zip}}
+use Rattle.std.specs.Prelude.{◌≡◌, ℕ, Bool, true, false, not, ◌&&◌, ◌||◌, List, ◌++◌, length}
+use Rattle.std.specs.{Prelude.{slice_index_or}, List.{list_all, list_any, zip}}
 
 abbrev pub flag : List Bool → ℕ → Bool
 flag flags n = slice_index_or flags n false

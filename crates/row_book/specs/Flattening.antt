@@ -2,9 +2,11 @@
 -- package are put in terms of those that are left. This is the section on flattening of Vouillon
 -- and Di Cosmo, "On Software Component Co-Installability". Hold is not theirs: a package stays if
 -- its elimination would make a row pass the clause limit.
-use Rattle.std.specs.Prelude.{ℕ, zero, suc, Bool, false, not, ◌&&◌, ◌||◌, eqb, ltb, cond, List, [], ◌∷◌, map, length, Option, Some, None}
+use Rattle.std.specs.Prelude.{ℕ, zero, suc, Bool, false, not, ◌&&◌, ◌||◌, eqb, ltb, cond, List, []}
+use Rattle.std.specs.Prelude.{◌∷◌, map, length, Option, Some, None}
 use Rattle.std.specs.{List.{list_all, list_any, filter, find}, Option.{option_map}}
-use Rattle.row_book.specs.{Sets.{NumSet, plus, without}, Repository.{Repository, against}, Numbers.{numbers}, Support.{row}}
+use Rattle.row_book.specs.{Sets.{NumSet, plus, without}, Repository.{Repository, against}}
+use Rattle.row_book.specs.{Numbers.{numbers}, Support.{row}}
 
 -- the packages in order
 abbrev pub packages : Repository → List ℕ

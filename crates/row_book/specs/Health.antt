@@ -2,7 +2,8 @@
 -- does not hit, by the package's number and by the clause's place in the package's row. If the set
 -- hits them all, it is its first conflict.
 use Rattle.std.specs.Prelude.{◌≡◌, ℕ, ◌<◌, ◌≤◌, true, List, [], ◌⊎◌, length, slice_index_or}
-use Rattle.row_book.specs.{Sets.{NumSet, Is, Hit}, Repository.{Repository, Satisfied, clauses_of}, Book.{listed_for}, declared.health.Unhealthy.{Unhealthy}}
+use Rattle.row_book.specs.{Sets.{NumSet, Is, Hit}, Repository.{Repository, Satisfied, clauses_of}}
+use Rattle.row_book.specs.{Book.{listed_for}, declared.health.Unhealthy.{Unhealthy}}
 use Rattle.row_book.specs.declared.health.Unhealthy.TheVariants.{Unhit, Clash}
 use Rattle.listed.specs.Lists.{has}
 

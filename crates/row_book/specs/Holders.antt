@@ -1,7 +1,9 @@
 -- Which rows have which clauses, and which clauses hold which packages. A clause is given by its
 -- id.
-use Rattle.std.specs.{Prelude.{◌≡◌, ℕ, ◌<◌, ◌⊎◌, Bool, List, filter, length}, Global.{Vec}, List.{list_any}}
-use Rattle.clause_pool.specs.{Interned.{Interned, IsPool, OfPool, clause_at, clauses_at}, Lists.{InOrder}}
+use Rattle.std.specs.{Prelude.{◌≡◌, ℕ, ◌<◌, ◌⊎◌, Bool, List, filter, length}, Global.{Vec}}
+use Rattle.std.specs.List.{list_any}
+use Rattle.clause_pool.specs.Interned.{Interned, IsPool, OfPool, clause_at, clauses_at}
+use Rattle.clause_pool.specs.Lists.{InOrder}
 use Rattle.listed.specs.Lists.{In, has}
 use Rattle.row_book.specs.{Numbers.{numbers}, Book.{listed_for}, Uses.{lists_in}}
 

@@ -1,6 +1,7 @@
 -- What a reduction keeps: whether sets of packages can be installed together.
 use Rattle.std.specs.Prelude.{◌↔◌}
-use Rattle.row_book.specs.{Sets.{NumSet}, Repository.{Repository, Coinst, Healthy}, Sound.{OfPackages}}
+use Rattle.row_book.specs.{Sets.{NumSet}, Repository.{Repository, Coinst, Healthy}}
+use Rattle.row_book.specs.Sound.{OfPackages}
 
 -- every set is healthy in both or in neither
 abbrev pub KeepsHealthySets : Repository → Repository → Type 0

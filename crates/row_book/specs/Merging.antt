@@ -1,8 +1,11 @@
 -- Merging: packages with the same clauses and the same conflicts become one class. Vouillon and Di
 -- Cosmo, "On Software Component Co-Installability", the section on equivalence classes.
-use Rattle.std.specs.{Prelude.{ℕ, suc, Bool, not, ◌&&◌, eqb, ltb, cond, List, [], ◌∷◌, map, filter, length, slice_index_or}, List.{list_any}}
+use Rattle.std.specs.Prelude.{ℕ, suc, Bool, not, ◌&&◌, eqb, ltb, cond, List, [], ◌∷◌, map, filter}
+use Rattle.std.specs.{Prelude.{length, slice_index_or}, List.{list_any}}
 use Rattle.std.specs.Cmp.Lexicographic.{pointwise}
-use Rattle.row_book.specs.{Sets.{NumSet}, Repository.{Repository, against, clauses_of, conflicts_of}, Numbers.{numbers}, Flattening.{packages}}
+use Rattle.row_book.specs.Sets.{NumSet}
+use Rattle.row_book.specs.Repository.{Repository, against, clauses_of, conflicts_of}
+use Rattle.row_book.specs.{Numbers.{numbers}, Flattening.{packages}}
 use Rattle.listed.specs.Lists.{has}
 use Rattle.clause_pool.specs.Clauses.{apart_from, minimal_of, in_row_order}
 

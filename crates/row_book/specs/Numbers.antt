@@ -1,4 +1,4 @@
--- Numbers in a row, and the families of all sets of them.
+-- Numbers one after another, and the lists of all sets of such numbers.
 use Rattle.std.specs.Prelude.{ℕ, zero, suc, List, [], ◌∷◌, ◌++◌, map}
 
 -- `n` numbers, from the given one on

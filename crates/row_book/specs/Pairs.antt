@@ -1,6 +1,7 @@
 -- for the bodies of this crate alone
 -- Pairs in order, and lists of conflicts while they grow.
-use Rattle.std.specs.Prelude.{◌≡◌, ◌≢◌, ℕ, ◌<◌, ◌≤◌, Bool, true, false, eqb, cond, List, [], ◌∷◌, ◌++◌, ◌⊎◌, length}
+use Rattle.std.specs.Prelude.{◌≡◌, ◌≢◌, ℕ, ◌<◌, ◌≤◌, Bool, true, false, eqb, cond, List, [], ◌∷◌}
+use Rattle.std.specs.Prelude.{◌++◌, ◌⊎◌, length}
 use Rattle.listed.specs.Lists.{In, Ascending}
 use Rattle.row_book.specs.{Book.{listed_for, are_paired}, declared.pair.Pair.{Pair}}
 

@@ -1,6 +1,7 @@
 -- The part of a repository that some of its packages make: these alone, in their order and numbered
 -- anew, with what is left of their clauses and conflicts.
-use Rattle.std.specs.{Prelude.{ℕ, Bool, List, map, filter, length, slice_index_or, take}, List.{items_where_true, range_with_len}}
+use Rattle.std.specs.Prelude.{ℕ, Bool, List, map, filter, length, slice_index_or, take}
+use Rattle.std.specs.List.{items_where_true, range_with_len}
 use Rattle.clause_pool.specs.Clauses.{in_row_order}
 use Rattle.row_book.specs.{Flags.{flag}, Repository.{Repository}}
 

@@ -1,7 +1,11 @@
--- What holds of books, needs and repositories has one proof at most, so that a struct may keep it.
-use Rattle.std.specs.{Prelude.{◌≡◌, ℕ, Bool, List, refl}, Coded.{Coded, Coded-set, code_by, coded×, coded_list, coded_ℕ, coded_bool, le_prop}}
+-- Facts on books, needs and repositories have one proof at most, so that a struct may keep them as
+-- ghost fields.
+use Rattle.std.specs.Prelude.{◌≡◌, ℕ, Bool, List, refl}
+use Rattle.std.specs.Coded.{Coded, Coded-set, code_by, coded×, coded_list, coded_ℕ, coded_bool}
+use Rattle.std.specs.Coded.{le_prop}
 use Rattle.clause_pool.specs.{Interned.{Interned}, Props.{Ascending-prop, IsPool-prop}}
-use Rattle.row_book.specs.{Book.{AreConflicts, Sound}, Needs.{AreNeeds, IsNeed}, Repository.{Repository}, declared.book.Book.{Book}}
+use Rattle.row_book.specs.{Book.{AreConflicts, Sound}, Needs.{AreNeeds, IsNeed}}
+use Rattle.row_book.specs.{Repository.{Repository}, declared.book.Book.{Book}}
 
 bool-set : IsSet Bool
 bool-set = Coded-set coded_bool

@@ -1,8 +1,10 @@
 -- Pruning: packages that cannot be installed get the empty clause alone. Clauses that are always
 -- hit, or may be hit at no cost, are dropped.
-use Rattle.std.specs.Prelude.{ℕ, Bool, not, ◌&&◌, ◌||◌, eqb, cond, List, [], ◌∷◌, ◌++◌, filter, Option, Some, None, slice_set}
-use Rattle.std.specs.{List.{list_all, list_any, find}, Cmp.Lexicographic.{pointwise}}
-use Rattle.row_book.specs.{Sets.{NumSet, plus}, Repository.{Repository, against, clauses_of}, Flattening.{packages}, Facing.{sides, face}}
+use Rattle.std.specs.Prelude.{ℕ, Bool, not, ◌&&◌, ◌||◌, eqb, cond, List, [], ◌∷◌, ◌++◌, filter}
+use Rattle.std.specs.{Prelude.{Option, Some, None, slice_set}, List.{list_all, list_any, find}}
+use Rattle.std.specs.Cmp.Lexicographic.{pointwise}
+use Rattle.row_book.specs.{Sets.{NumSet, plus}, Repository.{Repository, against, clauses_of}}
+use Rattle.row_book.specs.{Flattening.{packages}, Facing.{sides, face}}
 use Rattle.listed.specs.Lists.{has, is_inside}
 
 -- the repository with other clauses for a package

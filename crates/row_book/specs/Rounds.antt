@@ -1,10 +1,14 @@
 -- Rounds of reduction, and the kernel: what no further round changes. All rounds have one clause
 -- limit, and hold or not.
-use Rattle.std.specs.Prelude.{◌≡◌, ◌⊎◌, ℕ, zero, suc, ◌<◌, ◌+◌, ◌*◌, Bool, true, false, ◌&&◌, eqb, cond, min, List, [], ◌∷◌, ◌++◌, map, length, Option}
+use Rattle.std.specs.Prelude.{◌≡◌, ◌⊎◌, ℕ, zero, suc, ◌<◌, ◌+◌, ◌*◌, Bool, true, false, ◌&&◌, eqb}
+use Rattle.std.specs.Prelude.{cond, min, List, [], ◌∷◌, ◌++◌, map, length, Option}
 use Rattle.std.specs.{Option.{option_map}, Cmp.Lexicographic.{pointwise}}
-use Rattle.row_book.specs.{Sets.{NumSet}, Repository.{Repository, against, clauses_of}, Numbers.{numbers, subsets}}
-use Rattle.row_book.specs.Flattening.{flat, has_conflict, held_of, is_held, packages, Passed, passes, first_some}
-use Rattle.row_book.specs.{Merging.{are_alike, class_of, class_list, image, quotient, place_of}, Pruning.{IdleClause, is_dropped, idle_steps, is_dead, prune}}
+use Rattle.row_book.specs.{Sets.{NumSet}, Repository.{Repository, against, clauses_of}}
+use Rattle.row_book.specs.Numbers.{numbers, subsets}
+use Rattle.row_book.specs.Flattening.{flat, has_conflict, held_of, is_held, packages, Passed}
+use Rattle.row_book.specs.Flattening.{passes, first_some}
+use Rattle.row_book.specs.Merging.{are_alike, class_of, class_list, image, quotient, place_of}
+use Rattle.row_book.specs.Pruning.{IdleClause, is_dropped, idle_steps, is_dead, prune}
 use Rattle.row_book.specs.Thinning.{is_redundant, thin}
 use Rattle.listed.specs.Lists.{In}
 

@@ -1,4 +1,5 @@
--- Sets of packages as tests, clauses as lists, and what a set hits.
+-- Sets of packages, each given by the test of its members; clauses, each given as a list; and which
+-- clauses a set hits.
 use Rattle.std.specs.Prelude.{◌≡◌, ℕ, Bool, true, not, ◌&&◌, ◌||◌, eqb, List}
 use Rattle.listed.specs.Lists.{In, has}
 

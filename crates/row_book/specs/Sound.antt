@@ -1,6 +1,7 @@
 -- What the laws on repositories ask of their data.
 use Rattle.std.specs.Prelude.{◌≡◌, ℕ, ◌<◌, true, List, length}
-use Rattle.row_book.specs.{Sets.{NumSet}, Repository.{Repository, clauses_of, against}, Book.{AreConflicts}}
+use Rattle.row_book.specs.{Sets.{NumSet}, Repository.{Repository, clauses_of, against}}
+use Rattle.row_book.specs.Book.{AreConflicts}
 use Rattle.listed.specs.Lists.{In, Ascending, Inside}
 
 -- V is a set of packages

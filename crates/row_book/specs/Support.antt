@@ -2,8 +2,10 @@
 -- can be added to any installation as soon as its clauses are hit. So the clauses of a package can
 -- be put in terms of the packages with conflicts alone. This is the section on flattening of
 -- Vouillon and Di Cosmo, "On Software Component Co-Installability".
-use Rattle.std.specs.{Prelude.{◌≡◌, ◌≢◌, ℕ, ◌<◌, Bool, false, not, ◌&&◌, ◌||◌, eqb, List, ◌∷◌, ◌⊎◌, length}, List.{list_all, list_any, filter}}
-use Rattle.row_book.specs.{Sets.{NumSet, Is, minus, without}, Repository.{Repository, Satisfied, clauses_of}, Numbers.{subsets}}
+use Rattle.std.specs.Prelude.{◌≡◌, ◌≢◌, ℕ, ◌<◌, Bool, false, not, ◌&&◌, ◌||◌, eqb, List, ◌∷◌, ◌⊎◌}
+use Rattle.std.specs.{Prelude.{length}, List.{list_all, list_any, filter}}
+use Rattle.row_book.specs.Sets.{NumSet, Is, minus, without}
+use Rattle.row_book.specs.{Repository.{Repository, Satisfied, clauses_of}, Numbers.{subsets}}
 use Rattle.listed.specs.Lists.{In, has, Ascending, Inside, is_inside}
 
 -- the members of X, the helpers J and the package p together

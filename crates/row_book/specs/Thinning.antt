@@ -1,7 +1,8 @@
 -- Thinning: a conflict is dropped if the two packages exclude each other by other conflicts
 -- already.
 use Rattle.std.specs.Prelude.{ℕ, Bool, not, ◌&&◌, ◌||◌, eqb, cond, List, [], ◌∷◌, ◌++◌, map, filter}
-use Rattle.row_book.specs.{Repository.{Repository, against, conflicts_of}, Flattening.{packages}, Facing.{sides, face}}
+use Rattle.row_book.specs.{Repository.{Repository, against, conflicts_of}, Flattening.{packages}}
+use Rattle.row_book.specs.Facing.{sides, face}
 
 -- whether m and n are a and b, in one order or the other
 abbrev pub is_pair : ℕ → ℕ → ℕ → ℕ → Bool

@@ -2,7 +2,9 @@
 use Rattle.std.specs.Prelude.{List, map}
 use Rattle.clause_pool.specs.Interned.{Interned}
 use Rattle.listed.specs.Lists.{In}
-use Rattle.row_book.specs.{Book.{repository_of, Sound}, Rounds.{RoundStep, FlatStep, IdleStep, MergeStep}, declared.trail.Step.{Step}}
+use Rattle.row_book.specs.Book.{repository_of, Sound}
+use Rattle.row_book.specs.Rounds.{RoundStep, FlatStep, IdleStep, MergeStep}
+use Rattle.row_book.specs.declared.trail.Step.{Step}
 use Rattle.row_book.specs.declared.trail.Step.TheVariants.{Flat, Idle, Merge}
 
 abbrev pub step_meaning : Interned → Step → RoundStep

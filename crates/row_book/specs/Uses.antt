@@ -1,5 +1,6 @@
 -- Which packages name which: for each number the packages whose row has a clause that holds it.
-use Rattle.std.specs.{Prelude.{◌≡◌, ℕ, ◌<◌, ◌≤◌, ◌-◌, ◌⊎◌, Bool, List, [], map, filter, length, slice_index_or, Result, Ok, Err}, List.{list_any}, Global.{Vec}}
+use Rattle.std.specs.Prelude.{◌≡◌, ℕ, ◌<◌, ◌≤◌, ◌-◌, ◌⊎◌, Bool, List, [], map, filter, length}
+use Rattle.std.specs.{Prelude.{slice_index_or, Result, Ok, Err}, List.{list_any}, Global.{Vec}}
 use Rattle.std.specs.Vec.{vec_capacity, vec_len}
 use Rattle.clause_pool.specs.Interned.{Interned, row_at}
 use Rattle.row_book.specs.{Sets.{NumSet}, Numbers.{numbers}}

@@ -88,19 +88,19 @@ impl Book {
     }
 
     /// The row of a package below the size.
-    pub fn row(&self, number: u32) -> RowId
-        requires { number < length self.now.rows }
-        ensures { result ≡ slice_index_or self.now.rows number 0 }
+    pub fn row(&self, package: u32) -> RowId
+        requires { «package» < length self.now.rows }
+        ensures { result ≡ slice_index_or self.now.rows «package» 0 }
     {
-        self.rows.as_slice()[number as usize]
+        self.rows.as_slice()[package as usize]
     }
 
     /// Lends the packages that conflict with a package below the size, in a sound book ascending.
-    pub fn against(&self, number: u32) -> &[u32]
-        requires { number < length self.now.rows }
-        ensures { result.now ≡ listed_for self.now.conflicts number }
+    pub fn against(&self, package: u32) -> &[u32]
+        requires { «package» < length self.now.rows }
+        ensures { result.now ≡ listed_for self.now.conflicts «package» }
     {
-        self.conflicts.as_slice()[number as usize].as_slice()
+        self.conflicts.as_slice()[package as usize].as_slice()
     }
 
     /// Whether the second package is among the conflicts of the first, both below the size.

@@ -1,9 +1,11 @@
 //! Which rows have which clauses, and which clauses hold which packages.
-ghost use Rattle.std.specs.{Prelude.{◌≡◌, ◌≢◌, ◌∷◌, ◌<◌, ◌≤◌, ◌&&◌, ℕ, List, [], IfOk, OnOk, OnErr, length, ltb, slice_set}, List.{filter, list_any}};
+ghost use Rattle.std.specs.Prelude.{◌≡◌, ◌≢◌, ◌∷◌, ◌<◌, ◌≤◌, ◌&&◌, ℕ, List, [], IfOk, OnOk, OnErr};
+ghost use Rattle.std.specs.{Prelude.{length, ltb, slice_set}, List.{filter, list_any}};
 ghost use Rattle.clause_pool.specs.Interned.{clause_at, Interned, OfPool};
 ghost use Rattle.listed.specs.Lists.{In, has};
 ghost use Rattle.row_book.specs.{Book.{listed_for}, Uses.{lists_in, list_in, IsListOf}};
-ghost use Rattle.row_book.specs.Holders.{holders_in, ids_hold, is_user, users_in, ArePlaced, GainsOnly, HasAll, ListsClauses, ListsFit, TellsRows};
+ghost use Rattle.row_book.specs.Holders.{holders_in, ids_hold, is_user, users_in, ArePlaced};
+ghost use Rattle.row_book.specs.Holders.{GainsOnly, HasAll, ListsClauses, ListsFit, TellsRows};
 
 use crate::IdList;
 use crate::changes::gained_between;

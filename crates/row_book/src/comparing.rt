@@ -1,5 +1,6 @@
 //! Whether two books are of the same repository.
-ghost use Rattle.std.specs.{Prelude.{◌≡◌, ◌<◌, ◌&&◌, ◌||◌, eqb, length}, Bool.{OnTrue}, Cmp.Lexicographic.{pointwise}};
+ghost use Rattle.std.specs.{Prelude.{◌≡◌, ◌<◌, ◌&&◌, ◌||◌, eqb, length}, Bool.{OnTrue}};
+ghost use Rattle.std.specs.Cmp.Lexicographic.{pointwise};
 ghost use Rattle.clause_pool.specs.Interned.{row_at};
 ghost use Rattle.row_book.specs.{Book.{repository_of, Sound}, Rounds.{is_same_repository}};
 

@@ -1,8 +1,11 @@
 //! Whether a set of packages is healthy, and the first reason why not.
-ghost use Rattle.std.specs.{Prelude.{◌≡◌, ◌<◌, ◌&&◌, ltb, length, IfErr, MatchOption, OnOk}, List.{find}};
+ghost use Rattle.std.specs.Prelude.{◌≡◌, ◌<◌, ◌&&◌, ltb, length, IfErr, MatchOption, OnOk};
+ghost use Rattle.std.specs.List.{find};
 ghost use Rattle.clause_pool.specs.Interned.{clauses_at, OfPool};
-ghost use Rattle.row_book.specs.{Sets.{HitsAll}, Repository.{Healthy}, Book.{repository_of, AreConflicts, Sound}, Flags.{flag}};
-ghost use Rattle.row_book.specs.Health.{AllSatisfied, HasNoClash, IsFirstClash, IsFirstFault, IsFirstUnhit};
+ghost use Rattle.row_book.specs.{Sets.{HitsAll}, Repository.{Healthy}};
+ghost use Rattle.row_book.specs.{Book.{repository_of, AreConflicts, Sound}, Flags.{flag}};
+ghost use Rattle.row_book.specs.Health.{AllSatisfied, HasNoClash, IsFirstClash, IsFirstFault};
+ghost use Rattle.row_book.specs.Health.{IsFirstUnhit};
 
 use crate::book::Book;
 use crate::pair::Pair;

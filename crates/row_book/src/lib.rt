@@ -28,7 +28,7 @@ pub use comparing::{are_same_lists, is_same_book, same_books};
 // Which packages are healthy or conflict, and which lists hold or hit others.
 pub use conflicting::{are_against, common_conflicts, conflicts_of};
 pub use health::Unhealthy;
-pub use listed::{holds, is_inside};
+pub use listed::holds;
 pub use subsets::is_coinst;
 
 // Tables of who names whom, and of the rows that hold a clause.

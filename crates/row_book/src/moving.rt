@@ -1,6 +1,7 @@
 //! Books whose rows come into another pool.
 ghost use Rattle.std.specs.Prelude.{ℕ, List, IfOk, OnOk};
-ghost use Rattle.clause_pool.specs.{Interned.{Interned, IsPool, Kept}, Compacting.{Compacts, Knows}};
+ghost use Rattle.clause_pool.specs.Interned.{Interned, IsPool, Kept};
+ghost use Rattle.clause_pool.specs.Compacting.{Compacts, Knows};
 ghost use Rattle.listed.specs.Lists.{In};
 ghost use Rattle.row_book.specs.Book.{AddsOnly, IsSameBook, Sound};
 

@@ -1,6 +1,8 @@
 //! The conflicts of each package, from the pairs of packages that conflict.
-ghost use Rattle.std.specs.{Prelude.{◌≡◌, ◌<◌, IfOk, OnOk, length, slice_set}, List.Sorted.{IsPermutation}};
-ghost use Rattle.row_book.specs.{Book.{listed_for, lists_of_pairs, PairsFit}, Pairs.{is_last, with_last, AllEmpty, Entered, ListsPairs, Rising}};
+ghost use Rattle.std.specs.Prelude.{◌≡◌, ◌<◌, IfOk, OnOk, length, slice_set};
+ghost use Rattle.std.specs.List.Sorted.{IsPermutation};
+ghost use Rattle.row_book.specs.Book.{listed_for, lists_of_pairs, PairsFit};
+ghost use Rattle.row_book.specs.Pairs.{is_last, with_last, AllEmpty, Entered, ListsPairs, Rising};
 
 use crate::{NumList, Pair};
 use listed::empty_lists;

@@ -1,8 +1,11 @@
 //! Co-installability by the plainest way: every set of packages is tried.
 
-ghost use Rattle.std.specs.{Prelude.{◌≡◌, ◌↔◌, ◌++◌, ◌∷◌, [], IfOk, IsTrue}, List.{list_all, list_any}};
+ghost use Rattle.std.specs.Prelude.{◌≡◌, ◌↔◌, ◌++◌, ◌∷◌, [], IfOk, IsTrue};
+ghost use Rattle.std.specs.List.{list_all, list_any};
 ghost use Rattle.listed.specs.Lists.{has};
-ghost use Rattle.row_book.specs.{Repository.{Coinst}, Flags.{flag, hits_row, is_abundant, is_peaceful, is_solution, Extends}};
+ghost use Rattle.row_book.specs.Repository.{Coinst};
+ghost use Rattle.row_book.specs.Flags.{flag, hits_row, is_abundant, is_peaceful, is_solution};
+ghost use Rattle.row_book.specs.Flags.{Extends};
 
 use crate::{ClauseList, NumList};
 use std::alloc::{AllocError, Global};

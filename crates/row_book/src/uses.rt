@@ -3,12 +3,14 @@
 //! The table holds a pair for each package and each number, so a long clause that many rows share
 //! costs a square. Flattening goes by `ClauseTable`. This table serves `eliminate`, and
 //! `suite_part`, which asks it who needs a package that has changed.
-ghost use Rattle.std.specs.Prelude.{◌≡◌, ◌<◌, ◌-◌, ◌⊎◌, ◌&&◌, ◌||◌, ℕ, List, [], IfOk, OnOk, OnErr, true, not, eqb, length, slice_set, vec_capacity, vec_len};
+ghost use Rattle.std.specs.Prelude.{◌≡◌, ◌<◌, ◌-◌, ◌⊎◌, ◌&&◌, ◌||◌, ℕ, List, [], IfOk, OnOk, OnErr};
+ghost use Rattle.std.specs.Prelude.{true, not, eqb, length, slice_set, vec_capacity, vec_len};
 ghost use Rattle.std.specs.List.Sorted.{IsNonDecreasing, IsSearchInRange};
 ghost use Rattle.clause_pool.specs.Interned.{clauses_at, ids_at, row_at, OfPool};
 ghost use Rattle.listed.specs.Lists.{In, has, Ascending};
 ghost use Rattle.row_book.specs.{Sets.{plus, without}, Book.{listed_for, RowsFit}};
-ghost use Rattle.row_book.specs.Uses.{row_id, some_holds, uses_of, HoldsDifference, IsListOf, IsPlaceOf, lists_in, list_in, room_in};
+ghost use Rattle.row_book.specs.Uses.{row_id, some_holds, uses_of, HoldsDifference, IsListOf};
+ghost use Rattle.row_book.specs.Uses.{IsPlaceOf, lists_in, list_in, room_in};
 
 use crate::changes::{Changes, changes_between};
 use clause_pool::{ClauseId, Pool, RowId};
@@ -64,25 +66,24 @@ impl UseTable {
         &mut self,
         alloc: Global,
         pool: &Pool,
-        number: u32,
+        package: u32,
         old: RowId,
         new: RowId,
     ) -> Result<(), AllocError>
         requires old { old < length pool.now.rows }
         requires new { new < length pool.now.rows }
-        requires old_numbers { (c : List ℕ) → In c (row_at pool.now old) → (n : ℕ) → In n c →
-            n < length self.old }
         requires numbers { (c : List ℕ) → In c (row_at pool.now new) → (n : ℕ) → In n c →
             n < length self.old }
-        ensures ok { OnOk result ((rows : List ℕ) → number < length rows →
-            row_id rows number ≡ old →
+        ensures ok { OnOk result ((rows : List ℕ) → «package» < length rows →
+            row_id rows «package» ≡ old →
             self.old ≡ uses_of pool.now rows →
-            self.new ≡ uses_of pool.now (slice_set rows number new)) }
+            self.new ≡ uses_of pool.now (slice_set rows «package» new)) }
         ensures err { OnErr result (self.new ≡ self.old) }
     {
         let changes = changes_between(alloc, pool, pool.row(old), pool.row(new))?;
         let table = self.users.as_mut_slice();
-        let answer = exchange(table, alloc, pool, number, new, &changes);
+        let answer = exchange(table, alloc, pool, package, new, &changes);
+        // Its one end: a proof follows each field at every end of the body that owns it.
         drop(changes);
         answer
     }
@@ -95,30 +96,28 @@ fn exchange(
     table: &mut [Vec<u32>],
     alloc: Global,
     pool: &Pool,
-    number: u32,
+    package: u32,
     new: RowId,
     changes: &Changes,
 ) -> Result<(), AllocError>
     requires new { new < length pool.now.rows }
     requires lost_of { OfPool pool.now changes.now.lost.items }
     requires gained_of { OfPool pool.now changes.now.gained.items }
-    requires lost { (n : ℕ) → some_holds (clauses_at pool.now changes.now.lost.items) n ≡ true →
-        n < length table.old }
     requires gained { (n : ℕ) → some_holds (clauses_at pool.now changes.now.gained.items) n ≡ true →
         n < length table.old }
-    ensures ok { OnOk result ((rows : List ℕ) → number < length rows →
-        HoldsDifference (ids_at pool.now (row_id rows number))
+    ensures ok { OnOk result ((rows : List ℕ) → «package» < length rows →
+        HoldsDifference (ids_at pool.now (row_id rows «package»))
         (ids_at pool.now new) changes.now.lost.items →
         HoldsDifference (ids_at pool.now new)
-        (ids_at pool.now (row_id rows number)) changes.now.gained.items →
+        (ids_at pool.now (row_id rows «package»)) changes.now.gained.items →
         lists_in table.old ≡ uses_of pool.now rows →
-        lists_in table.new ≡ uses_of pool.now (slice_set rows number new)) }
+        lists_in table.new ≡ uses_of pool.now (slice_set rows «package» new)) }
     ensures err { OnErr result (lists_in table.new ≡ lists_in table.old) }
 {
     let before = sorted_numbers_in(alloc, pool, changes.lost.as_slice())?;
     let kept = numbers_among(alloc, pool, pool.row(new), before.as_slice())?;
-    add_gained(table, alloc, pool, changes.gained.as_slice(), number)?;
-    take_from_each(table, before.as_slice(), kept.as_slice(), number);
+    add_gained(table, alloc, pool, changes.gained.as_slice(), package)?;
+    take_from_each(table, before.as_slice(), kept.as_slice(), package);
     Ok(())
 }
 
@@ -129,18 +128,19 @@ fn add_gained(
     alloc: Global,
     pool: &Pool,
     ids: &[ClauseId],
-    number: u32,
+    package: u32,
 ) -> Result<(), AllocError>
     requires of_pool { OfPool pool.now ids.now }
     requires within { (n : ℕ) → some_holds (clauses_at pool.now ids.now) n ≡ true →
         n < length table.old }
     ensures ok { OnOk result ((n : ℕ) → Ascending (list_in table.old n) →
         IsListOf (λ m. has (list_in table.old n) m
-        || (some_holds (clauses_at pool.now ids.now) n && eqb m number)) (list_in table.new n)) }
+        || (some_holds (clauses_at pool.now ids.now) n && eqb m «package»)) (list_in table.new n)) }
     ensures err { OnErr result (lists_in table.new ≡ lists_in table.old) }
 {
     let after = numbers_in(alloc, pool, ids)?;
-    let answer = add_to_each(table, after.as_slice(), number);
+    let answer = add_to_each(table, after.as_slice(), package);
+    // Its one end: a proof follows each field at every end of the body that owns it.
     drop(after);
     answer
 }
@@ -225,15 +225,16 @@ fn add_wanted(clause: &[u32], wanted: &[u32], found: &mut Vec<u32>) -> Result<()
 
 /// Adds the package to the list of each of the numbers, unless it is there already. If memory runs
 /// out, the lists stay as they were.
-fn add_to_each(table: &mut [Vec<u32>], numbers: &[u32], number: u32) -> Result<(), AllocError>
+fn add_to_each(table: &mut [Vec<u32>], numbers: &[u32], package: u32) -> Result<(), AllocError>
     requires { (n : ℕ) → has numbers.now n ≡ true → n < length table.old }
     ensures ok { OnOk result ((n : ℕ) → Ascending (list_in table.old n) →
         IsListOf (λ m.
-        has (list_in table.old n) m || (has numbers.now n && eqb m number)) (list_in table.new n)) }
+        has (list_in table.old n) m
+        || (has numbers.now n && eqb m «package»)) (list_in table.new n)) }
     ensures err { OnErr result (lists_in table.new ≡ lists_in table.old) }
 {
     make_room(table, numbers)?;
-    put_into_each(table, numbers, number);
+    put_into_each(table, numbers, package);
     Ok(())
 }
 
@@ -263,10 +264,10 @@ fn put_into_each(table: &mut [Vec<u32>], numbers: &[u32], package: u32)
     }
 }
 
-/// Takes the package out of the list of each of the numbers that is not among those kept.
+/// Takes the package out of the list of each of the numbers that is not among those kept. A number
+/// beyond the table has no list, so no caller has to know that there is none.
 fn take_from_each(table: &mut [Vec<u32>], numbers: &[u32], kept: &[u32], package: u32)
-    requires sorted { IsNonDecreasing kept.now }
-    requires within { (n : ℕ) → has numbers.now n ≡ true → n < length table.old }
+    requires { IsNonDecreasing kept.now }
     ensures { (n : ℕ) → Ascending (list_in table.old n) →
         IsListOf (λ m. has (list_in table.old n) m
         && not (has numbers.now n && not (has kept.now n) && eqb m «package»))
@@ -274,6 +275,9 @@ fn take_from_each(table: &mut [Vec<u32>], numbers: &[u32], kept: &[u32], package
 {
     for number in numbers {
         if holds_sorted(kept, *number) {
+            continue;
+        }
+        if *number as usize >= table.len() {
             continue;
         }
         take_out(&mut table[*number as usize], package);

@@ -1,13 +1,13 @@
 -- A sample suite's index has no fault.
-use Rattle.std.proofs.Common.{◌≡◌, ◌∙◌, ◌<◌, ◌≤◌, ◌+◌, ◌&&◌, ℕ, true, false, zero, suc, nat_le, refl, ap, ap₂, List, [], ◌∷◌, map, length, take, codes, Option, Some, None, Result, Ok, arith}
-use Rattle.std.proofs.lemmas.Bool.{lt-leb}
+use Rattle.std.proofs.Common.{◌≡◌, ◌∙◌, ◌<◌, ◌≤◌, ◌+◌, ◌&&◌, ℕ, true, false, zero, suc, nat_le, refl, ap, ap₂, List, [], ◌∷◌, map, length, take, codes, Option}
+use Rattle.std.proofs.{Common.{Some, None, Result, Ok, arith}, lemmas.Bool.{lt-leb}}
 use Rattle.std.specs.{List.{AllByRecursion, find}, Ordering.{is_eq}, Str.{bytes_eq}}
 use Rattle.deb_version.specs.{Grammar.{is_version, epoch_of, behind_epoch, upstream_in, revision_in}, Order.{version_order}}
 use Rattle.relation_fields.specs.declared.packages.PackageFacts.{PackageFacts}
 use Rattle.stanza_reader.specs.{declared.fault.StanzaFault.{StanzaFault}, declared.stanza.RawStanza.{RawStanza}}
 use Rattle.repo_model.specs.Facts.{facts_of, is_same_package}
-use Rattle.repo_model.specs.FirstFault.{duplicate_fault, fault_behind, faults_from, first_fault, first_present, home_of, mixed_fault, presence_fault, reading_fault, stanzas_in, value_fault}
-use Rattle.repo_model.specs.Limits.{most_packages}
+use Rattle.repo_model.specs.FirstFault.{duplicate_fault, fault_behind, faults_from, first_fault, first_present, home_of, mixed_fault, presence_fault}
+use Rattle.repo_model.specs.{FirstFault.{reading_fault, stanzas_in, value_fault}, Limits.{most_packages}}
 use Rattle.sample_suite.specs.{declared.package.SamplePackage.{SamplePackage}, SampleText.{package_name, stanzas_text}}
 use Rattle.sample_suite.proofs.{Names.{IsSmall, name_named, names_differ}, Relations.{name_said, needs_said}}
 use Rattle.sample_suite.proofs.SampleStanzas.{IsFit, fields_at, line_behind, sample_readings, stanza_at_line, stanzas_from}

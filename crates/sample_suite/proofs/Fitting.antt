@@ -4,7 +4,8 @@ use Rattle.std.proofs.lemmas.List.{length-append}
 use Rattle.std.specs.List.{AllByRecursion}
 use Rattle.repo_model.specs.{FirstFault.{first_fault}, Limits.{most_bytes, most_packages}}
 use Rattle.sample_suite.specs.{declared.package.SamplePackage.{SamplePackage}, Drawing.{IsCount, sample_packages}}
-use Rattle.sample_suite.specs.SampleText.{conflicts_lines, depends_lines, element_text, with_feeds, needs_text, package_name, sample_text, stanza_lines, stanza_text, stanzas_text}
+use Rattle.sample_suite.specs.SampleText.{conflicts_lines, depends_lines, element_text, with_feeds, needs_text, package_name, sample_text, stanza_lines}
+use Rattle.sample_suite.specs.SampleText.{stanza_text, stanzas_text}
 use Rattle.sample_suite.proofs.{Accepting.{stanzas_accepted}, DrawnPackages.{IsElement, IsPackage, IsConflict, length-sample_packages, packages_drawn}}
 use Rattle.sample_suite.proofs.{Names.{IsSmall}, SampleLines.{AreSmall, IsSmallConflict}, SampleStanzas.{IsFit}, Values.{AreFilled}}
 

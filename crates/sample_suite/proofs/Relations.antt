@@ -1,6 +1,7 @@
 -- The relation fields of a sample suite are in the grammar.
-use Rattle.std.proofs.Common.{◌≡◌, ◌∙◌, ◌≤◌, ◌+◌, ◌==◌, ◌&&◌, ℕ, Bool, true, false, not, refl, sym, ap, subst, List, [], ◌∷◌, ◌++◌, map, length, codes, append_assoc, append-nil, Option, Some, None, arith}
-use Rattle.std.proofs.{lemmas.Bool.{and_parts, not-true, ne_eqb}, lemmas.Iterator.Adapters.{position_from-zero}, Math.Bool.{and-false}}
+use Rattle.std.proofs.Common.{◌≡◌, ◌∙◌, ◌≤◌, ◌+◌, ◌==◌, ◌&&◌, ℕ, Bool, true, false, not, refl, sym, ap, subst, List, [], ◌∷◌, ◌++◌, map, length, codes}
+use Rattle.std.proofs.{Common.{append_assoc, append-nil, Option, Some, None, arith}, lemmas.Bool.{and_parts, not-true, ne_eqb}}
+use Rattle.std.proofs.{lemmas.Iterator.Adapters.{position_from-zero}, Math.Bool.{and-false}}
 use Rattle.std.specs.{List.{AllByRecursion, AllZip, flat_map, onto_first, position, position_from, slice_split}, Option.{is_none, option_map}}
 use Rattle.relation_fields.specs.{declared.relations.Atom.{Atom}, Fields.{elements, first_outside, is_outside}, Grammar.{alternatives_of, atom_of}}
 use Rattle.relation_fields.specs.{Spelling.{SpellsAtom}, Texts.{is_white}}

@@ -4,7 +4,8 @@ use Rattle.std.proofs.lemmas.Bool.{and_parts, not-true, ne_eqb}
 use Rattle.std.specs.{Prelude.{⊤}, List.{AllByRecursion, flat_map}}
 use Rattle.stanza_reader.specs.Lines.{is_line_feed, lines}
 use Rattle.sample_suite.specs.declared.package.SamplePackage.{SamplePackage}
-use Rattle.sample_suite.specs.SampleText.{conflicts_lines, depends_lines, element_text, joined_by, with_feeds, needs_text, package_name, stanza_lines, stanza_text}
+use Rattle.sample_suite.specs.SampleText.{conflicts_lines, depends_lines, element_text, joined_by, with_feeds, needs_text, package_name, stanza_lines}
+use Rattle.sample_suite.specs.SampleText.{stanza_text}
 use Rattle.sample_suite.proofs.Names.{IsSmall, free_both, is_free, name_free}
 
 abbrev is_clean : List ℕ → Bool

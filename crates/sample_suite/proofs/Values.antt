@@ -1,6 +1,6 @@
 -- The values of a sample suite's fields, behind their colons.
-use Rattle.std.proofs.Common.{◌≡◌, ◌∙◌, ◌≤◌, ◌==◌, ℕ, true, false, not, refl, sym, ap, subst, List, [], ◌∷◌, ◌++◌, map, length, codes, append_assoc, append-nil, arith}
-use Rattle.std.proofs.lemmas.Bool.{and_parts, not-true, ne_eqb}
+use Rattle.std.proofs.Common.{◌≡◌, ◌∙◌, ◌≤◌, ◌==◌, ℕ, true, false, not, refl, sym, ap, subst, List, [], ◌∷◌, ◌++◌, map, length, codes, append_assoc, append-nil}
+use Rattle.std.proofs.{Common.{arith}, lemmas.Bool.{and_parts, not-true, ne_eqb}}
 use Rattle.std.specs.List.{AllByRecursion, flat_map}
 use Rattle.stanza_reader.specs.Fields.{before_trimmed, is_edge, trimmed, trimmed_end, trimmed_start}
 use Rattle.sample_suite.specs.SampleText.{element_text, joined_by, needs_text, package_name}

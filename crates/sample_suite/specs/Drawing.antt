@@ -1,5 +1,6 @@
 -- The packages of a sample suite, drawn with a linear congruential generator (Knuth's for 64 bits).
-use Rattle.std.specs.Prelude.{ℕ, ◌+◌, ◌*◌, ◌/◌, ◌%◌, ◌≤◌, ◌==◌, zero, suc, List, [], ◌∷◌, Option, Some, None, if◌then◌else◌}
+use Rattle.std.specs.Prelude.{ℕ, ◌+◌, ◌*◌, ◌/◌, ◌%◌, ◌≤◌, ◌==◌, zero, suc, List, [], ◌∷◌, Option}
+use Rattle.std.specs.Prelude.{Some, None, if◌then◌else◌}
 use Rattle.repo_model.specs.Limits.{most_packages}
 use Rattle.sample_suite.specs.declared.package.SamplePackage.{SamplePackage}
 
@@ -30,19 +31,19 @@ draws one (suc n) state = drawn_first (one state).value (draws one n (one state)
 abbrev pub draw_element : ℕ → ℕ → Drawn (List ℕ)
 draw_element count state = let more = draw 2 state in draws (draw count) (more.value + 1) more.state
 
--- of five numbers two give no element, two give one, and one gives two
+-- a number below five is drawn: 0 and 1 give no element, 2 and 3 give one, and 4 gives two
 abbrev pub draw_needs : ℕ → ℕ → Drawn (List (List ℕ))
 draw_needs count state = let chance = draw 5 state in
     draws (draw_element count) (chance.value / 2) chance.state
 
--- the package that it conflicts with
+-- a conflict with the package that was drawn
 abbrev pub some_conflict : Drawn ℕ → Drawn (Option ℕ)
 some_conflict conflict = record { value = Some conflict.value; state = conflict.state }
 
 abbrev pub no_conflict : ℕ → Drawn (Option ℕ)
 no_conflict state = record { value = None; state = state }
 
--- one package in four conflicts with one
+-- a number below four is drawn: 0 gives a conflict, for which a package is drawn next
 abbrev pub draw_conflict : ℕ → ℕ → Drawn (Option ℕ)
 draw_conflict count state = let chance = draw 4 state in
     if chance.value == 0 then some_conflict (draw count chance.state) else no_conflict chance.state

@@ -1,6 +1,8 @@
 -- The index of a sample suite. Its packages are called p0, p1 and so on.
-use Rattle.std.specs.{Prelude.{ℕ, ◌+◌, List, [], ◌∷◌, ◌++◌, map, Option, Some, None, codes}, Fmt.{decimal}, List.{flat_map}}
-use Rattle.sample_suite.specs.{declared.package.SamplePackage.{SamplePackage}, Drawing.{sample_packages}}
+use Rattle.std.specs.Prelude.{ℕ, ◌+◌, List, [], ◌∷◌, ◌++◌, map, Option, Some, None, codes}
+use Rattle.std.specs.{Fmt.{decimal}, List.{flat_map}}
+use Rattle.sample_suite.specs.declared.package.SamplePackage.{SamplePackage}
+use Rattle.sample_suite.specs.Drawing.{sample_packages}
 
 abbrev pub package_name : ℕ → List ℕ
 package_name number = codes "p" ++ decimal number

@@ -3,7 +3,8 @@
 //! Its constants are Knuth's for 64 bits. A draw takes the upper bits of the state, as the lower
 //! ones repeat soon. The generator is written here so that a seed gives the same suite everywhere.
 ghost use Rattle.std.specs.Prelude.{◌≡◌, ◌<◌, IfOk, OnOk};
-ghost use Rattle.sample_suite.specs.Drawing.{draw, draws, draw_element, draw_needs, draw_package, draw_conflict};
+ghost use Rattle.sample_suite.specs.Drawing.{draw, draws, draw_element, draw_needs, draw_package};
+ghost use Rattle.sample_suite.specs.Drawing.{draw_conflict};
 
 use crate::package::SamplePackage;
 use clause_pool::NumList;

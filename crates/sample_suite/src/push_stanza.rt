@@ -1,6 +1,8 @@
 //! The stanza of a package, appended to a text.
 ghost use Rattle.std.specs.{Prelude.{◌≡◌, ◌++◌, ◌∷◌, [], OnOk, codes, map}, List.{flat_map}};
-ghost use Rattle.sample_suite.specs.SampleText.{conflicts_lines, depends_lines, element_text, joined_by, with_feeds, needs_text, package_name, stanza_text};
+ghost use Rattle.sample_suite.specs.SampleText.{conflicts_lines, depends_lines, element_text};
+ghost use Rattle.sample_suite.specs.SampleText.{joined_by, with_feeds, needs_text, package_name};
+ghost use Rattle.sample_suite.specs.SampleText.{stanza_text};
 
 use crate::package::SamplePackage;
 use clause_pool::NumList;

@@ -1,6 +1,8 @@
-use Rattle.std.proofs.Common.{◌≡◌, ℕ, zero, suc, ◌+◌, ◌*◌, ◌-◌, ◌<◌, Bool, true, false, not, ◌||◌, eqb, cond, List, [], ◌∷◌, ◌++◌, length, get_or, take, refl, ap, ◌∙◌, arith, inl, inr, Option, Some, None, subst, append_assoc, append-nil}
-use Rattle.std.proofs.{lemmas.List.{length_push, length-append}, lemmas.Bool.{cases_Bool, and_from, and_cases, or_left, or_right, eq-eqb, not-false}}
-use Rattle.std.proofs.lemmas.List.Elements.{All-contains, All-weaker, All-head, All-tail, Contains-append_left, Contains-append_right, Contains-push, Contains-get_or}
+use Rattle.std.proofs.Common.{◌≡◌, ℕ, zero, suc, ◌+◌, ◌*◌, ◌-◌, ◌<◌, Bool, true, false, not, ◌||◌, eqb, cond, List, [], ◌∷◌, ◌++◌, length, get_or, take, refl}
+use Rattle.std.proofs.{Common.{ap, ◌∙◌, arith, inl, inr, Option, Some, None, subst, append_assoc, append-nil}, lemmas.List.{length_push, length-append}}
+use Rattle.std.proofs.lemmas.Bool.{cases_Bool, and_from, and_cases, or_left, or_right, eq-eqb, not-false}
+use Rattle.std.proofs.lemmas.List.Elements.{All-contains, All-weaker, All-head, All-tail, Contains-append_left, Contains-append_right, Contains-push}
+use Rattle.std.proofs.lemmas.List.Elements.{Contains-get_or}
 use Rattle.std.specs.{Prelude.{All, Contains, map, slice_get, is_some}, List.{list_any}}
 use Rattle.listed.proofs.Lists.{at_end}
 use Rattle.search_terms.specs.declared.literals.Literal.{Literal}

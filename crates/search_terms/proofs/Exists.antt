@@ -1,6 +1,6 @@
-use Rattle.std.proofs.Common.{◌≡◌, ℕ, zero, suc, ◌+◌, ◌*◌, ◌<◌, ◌≤◌, ◌^◌, Bool, true, false, not, ◌&&◌, cond, List, [], ◌∷◌, ◌++◌, length, set, replicate, refl, ◌∙◌, arith, inl, inr, ◌⊎◌, Option, Some, None, subst}
-use Rattle.std.proofs.{Math.ListN.{get_or-eq_default}, Math.Numerals.{add-one}, Math.Pow.{pow_mono}, lemmas.Grind.{pow_more}}
-use Rattle.std.proofs.lemmas.Bool.{cases_Bool, cases_eq, cases_lt, both_ways, and_parts, and_from}
+use Rattle.std.proofs.Common.{◌≡◌, ℕ, zero, suc, ◌+◌, ◌*◌, ◌<◌, ◌≤◌, ◌^◌, Bool, true, false, not, ◌&&◌, cond, List, [], ◌∷◌, ◌++◌, length, set, replicate, refl}
+use Rattle.std.proofs.{Common.{◌∙◌, arith, inl, inr, ◌⊎◌, Option, Some, None, subst}, Math.ListN.{get_or-eq_default}, Math.Numerals.{add-one}}
+use Rattle.std.proofs.{Math.Pow.{pow_mono}, lemmas.Grind.{pow_more}, lemmas.Bool.{cases_Bool, cases_eq, cases_lt, both_ways, and_parts, and_from}}
 use Rattle.std.proofs.{lemmas.List.{get_or-set_same, length-set, length-replicate}, lemmas.List.FromFn.{get_or-map-range_with_len, length-map-range_with_len}}
 use Rattle.std.proofs.lemmas.List.Elements.{All-nil, All-cons, All-append, All-head, All-tail, All-weaker, All-push}
 use Rattle.std.specs.{Prelude.{All, map, is_some, count_by}, List.{list_any, find}}
@@ -10,8 +10,9 @@ use Rattle.search_terms.specs.Closure.{literal, negation, forces, is_refuted, Is
 use Rattle.search_terms.specs.Marks.{flag_place, is_marked, IsWithin, IsForced, HasClash, classes_left, true_classes}
 use Rattle.search_terms.specs.Tree.{is_open_need, is_undecided, IsFoundLeaf, IsSplit, Tree, IsTree, found_of, failed_leaves, log_of}
 use Rattle.search_terms.specs.Tree.Tree.{failed_leaf, found_leaf, split}
-use Rattle.search_terms.proofs.Sets.{literal_of, is_unmet, IsSoundly, marked_set, marked_more, place_fits, forced_there, forced_right, forced_place, forced_sound, sentence_met, fewer_unmarked, Contains-head}
-use Rattle.search_terms.proofs.{Least.{least_closed, unmarked, clash_from, negated_range}, Trees.{found_leaf_of, split_of, open_has_member}}
+use Rattle.search_terms.proofs.Sets.{literal_of, is_unmet, IsSoundly, marked_set, marked_more, place_fits, forced_there, forced_right, forced_place}
+use Rattle.search_terms.proofs.{Sets.{forced_sound, sentence_met, fewer_unmarked, Contains-head}, Least.{least_closed, unmarked, clash_from, negated_range}}
+use Rattle.search_terms.proofs.Trees.{found_leaf_of, split_of, open_has_member}
 
 -- either a sentence forces one more literal, or the set is closed
 pub forced_or_closed : (formula : List (List Literal)) (s : Literal → Bool) → ((l : Literal) × IsForced formula s l) ⊎ IsUnitClosed formula s

@@ -1,6 +1,6 @@
 -- The sentences of a formula, and its models.
-use Rattle.std.proofs.Common.{◌≡◌, ℕ, zero, suc, ◌+◌, ◌<◌, Bool, true, false, not, ◌||◌, List, [], ◌∷◌, inl, inr, length, get_or, refl, ap, sym, ◌∙◌, subst, arith}
-use Rattle.std.proofs.lemmas.Bool.{cases_Bool, or_cases, or_left, or_right, both_ways, not-true, not_from_false, false_from_ne_true}
+use Rattle.std.proofs.Common.{◌≡◌, ℕ, zero, suc, ◌+◌, ◌<◌, Bool, true, false, not, ◌||◌, List, [], ◌∷◌, inl, inr, length, get_or, refl, ap, sym, ◌∙◌, subst}
+use Rattle.std.proofs.{Common.{arith}, lemmas.Bool.{cases_Bool, or_cases, or_left, or_right, both_ways, not-true, not_from_false, false_from_ne_true}}
 use Rattle.std.proofs.lemmas.List.Elements.{All-contains}
 use Rattle.std.specs.{Prelude.{map}, List.{list_any}}
 use Rattle.listed.proofs.Lists.{in_contains, In_none, In_at, any_from, In_has, has_In}

@@ -1,7 +1,8 @@
-use Rattle.std.proofs.Common.{◌≡◌, ℕ, zero, suc, ◌+◌, ◌*◌, ◌<◌, ◌≤◌, Bool, true, false, List, [], ◌∷◌, ◌++◌, length, get_or, set, take, replicate, refl, inl, inr, ◌⊎◌}
-use Rattle.std.proofs.lemmas.List.{get_or-set_same, take_all}
-use Rattle.std.proofs.lemmas.List.Elements.{All-cons, All-nil, All-head, All-tail, All-more, All-contains, All-weaker, All-map, All-push, Contains-append_left, Contains-get_or, Contains-push}
-use Rattle.std.proofs.{lemmas.List.Folds.{Any-from_list_any, list_any-from_Any}, lemmas.Bool.{and_parts, and_from}}
+use Rattle.std.proofs.Common.{◌≡◌, ℕ, zero, suc, ◌+◌, ◌*◌, ◌<◌, ◌≤◌, Bool, true, false, List, [], ◌∷◌, ◌++◌, length, get_or, set, take, replicate, refl, inl}
+use Rattle.std.proofs.{Common.{inr, ◌⊎◌}, lemmas.List.{get_or-set_same, take_all}}
+use Rattle.std.proofs.lemmas.List.Elements.{All-cons, All-nil, All-head, All-tail, All-more, All-contains, All-weaker, All-map, All-push, Contains-append_left}
+use Rattle.std.proofs.{lemmas.List.Elements.{Contains-get_or, Contains-push}, lemmas.List.Folds.{Any-from_list_any, list_any-from_Any}}
+use Rattle.std.proofs.lemmas.Bool.{and_parts, and_from}
 use Rattle.std.specs.{Prelude.{All, map, ◌↔◌}, List.{list_all}}
 use Rattle.search_terms.specs.{declared.literals.Literal.{Literal}, Closure.{negation, is_refuted, IsUnitClosed, HasGiven, InClosure, IsClosure, Clashes}}
 use Rattle.search_terms.specs.Marks.{flag_place, is_marked, IsWithin, HasClash}

@@ -1,7 +1,7 @@
 -- Needs are local: the first open need of a calm closure, and its least undecided member, are the same there.
-use Rattle.std.proofs.Common.{◌≡◌, ℕ, zero, suc, ◌+◌, ◌<◌, Bool, true, false, not, ◌&&◌, cond, List, [], ◌∷◌, ◌++◌, inl, inr, length, refl, ap, ap₂, sym, ◌∙◌, subst, map, filter, flat_map, arith, Some, None, Option, zero-le}
-use Rattle.std.proofs.{lemmas.Bool.{cases_Bool, both_ways, false_from_ne_true}, lemmas.List.{ext_get_or, map-append}}
-use Rattle.std.proofs.lemmas.List.Folds.{find-append, list_any-from_Any}
+use Rattle.std.proofs.Common.{◌≡◌, ℕ, zero, suc, ◌+◌, ◌<◌, Bool, true, false, not, ◌&&◌, cond, List, [], ◌∷◌, ◌++◌, inl, inr, length, refl, ap, ap₂, sym, ◌∙◌}
+use Rattle.std.proofs.{Common.{subst, map, filter, flat_map, arith, Some, None, Option, zero-le}, lemmas.Bool.{cases_Bool, both_ways, false_from_ne_true}}
+use Rattle.std.proofs.{lemmas.List.{ext_get_or, map-append}, lemmas.List.Folds.{find-append, list_any-from_Any}}
 use Rattle.std.specs.{List.{find}, Option.{option_map, option_or}}
 use Rattle.listed.specs.Lists.{In, here, there, Ascending}
 use Rattle.listed.proofs.{Bools.{same_bool}, Lists.{In_cases, In_map, In_map_cases, In_flat_cases, all_at, find_not, filter_from, filter_cases}}

@@ -1,6 +1,6 @@
 -- The way back: what stands in another repository has what it came from standing in the first one.
-use Rattle.std.proofs.Common.{◌≡◌, ℕ, ◌<◌, Bool, true, ◌&&◌, eqb, List, [], ◌∷◌, inl, inr, length, refl, ap, ap₂, sym, ◌∙◌, subst, map, arith, zero-le, eq-eqb, eqb-true}
-use Rattle.std.proofs.lemmas.Bool.{and_parts, and_from, cases_eq, cases_lt, both_ways}
+use Rattle.std.proofs.Common.{◌≡◌, ℕ, ◌<◌, Bool, true, ◌&&◌, eqb, List, [], ◌∷◌, inl, inr, length, refl, ap, ap₂, sym, ◌∙◌, subst, map, arith, zero-le, eq-eqb}
+use Rattle.std.proofs.{Common.{eqb-true}, lemmas.Bool.{and_parts, and_from, cases_eq, cases_lt, both_ways}}
 use Rattle.std.specs.{List.{find, list_any}, Option.{unwrap_or}}
 use Rattle.listed.specs.Lists.{In, here, there}
 use Rattle.listed.proofs.{Bools.{cases_Option}, Lists.{In_map_cases, any_cases, any_from, find_some, find_none}}

@@ -1,21 +1,15 @@
 -- Trees are local, and so is what is counted of them.
-use Rattle.std.proofs.Common.{◌≡◌, ℕ, ◌+◌, ◌<◌, Bool, true, false, cond, List, [], ◌∷◌, ◌++◌, inl, inr, length, refl, ap, ap₂, sym, ◌∙◌, subst, map, Some, None, Option}
-use Rattle.std.proofs.{Math.ListN.{get_or-eq_default}, lemmas.Bool.{cases_lt, both_ways}, lemmas.List.{map-append}, lemmas.Option.{same_Some}}
+use Rattle.std.proofs.Common.{◌≡◌, ℕ, ◌+◌, ◌<◌, Bool, true, false, cond, List, [], ◌∷◌, ◌++◌, inl, inr, length, refl, ap, ap₂, sym, ◌∙◌, subst, map, Some, None}
+use Rattle.std.proofs.{Common.{Option}, lemmas.List.{map-append}, lemmas.Option.{same_Some}}
 use Rattle.std.specs.{Prelude.{is_some}, List.{find}, Option.{option_map}}
 use Rattle.listed.proofs.Lists.{In_cases, In_none, find_some}
-use Rattle.row_book.specs.{Sets.{NumSet}, Repository.{Repository}, Flags.{flag}}
+use Rattle.row_book.specs.{Sets.{NumSet}, Repository.{Repository}}
 use Rattle.search_terms.specs.{declared.literals.Literal.{Literal}, Closure.{literal, IsClosure, Clashes}, Form.{form}}
 use Rattle.search_terms.specs.Tree.{is_open_need, is_undecided, IsFoundLeaf, IsSplit, Tree, IsTree, found_of, failed_leaves}
 use Rattle.search_terms.specs.{Tree.Tree.{failed_leaf, found_leaf, split}, Local.{ReachStandsIn, SameChoice, SameTree, TreeIsLocal}}
 use Rattle.search_terms.proofs.{Shapes.{fails_shape}, Forms.{in_either}, LocalClosures.{moved, AreIn, clash_there, reached}, LocalReturns.{image_parts}}
 use Rattle.search_terms.proofs.LocalNeeds.{clash_back, reached_there, agree, open_in, least_there, needs_there}
-
--- a flag that is up is of a class
-up_within : (flags : List Bool) (n : ℕ) → flag flags n ≡ true → n < length flags
-up_within flags n h = elim (cases_lt n (length flags)) [
-  | inl lt ↦ lt
-  | inr ge ↦ absurd (both_ways (flag flags n) (get_or-eq_default flags false ge) h)
-]
+use Rattle.row_book.proofs.Flags.{flag_in}
 
 module _ (R : Repository) (goals : List (List ℕ)) (U : NumSet) (to : ℕ → ℕ) (other : Repository) (is : ReachStandsIn R goals U to other) where
   abbrev here_form : List (List Literal)
@@ -39,10 +33,10 @@ module _ (R : Repository) (goals : List (List ℕ)) (U : NumSet) (to : ℕ → �
     each = λ n v.
         b.each (to n) (is.within n v) ∙ agree R goals U to other is given u a.set b.set a.closure b.closure (literal n true) v ∙ sym (a.each n (is.classes n v));
     none_else = λ n h.
-        let lt : n < length R.clauses = subst (λ z. n < z) a.long (up_within chosen n h) in
+        let lt : n < length R.clauses = subst (λ z. n < z) a.long (flag_in chosen n h) in
         reached R goals U to other is given u n (a.closure.sound (literal n true) (sym (a.each n lt) ∙ h));
     none_else_there = λ m h.
-        let lt : m < length other.clauses = subst (λ z. m < z) b.long (up_within chosen_there m h) in
+        let lt : m < length other.clauses = subst (λ z. m < z) b.long (flag_in chosen_there m h) in
         image_parts R goals U to other is m (reached_there R goals U to other is given u m (b.closure.sound (literal m true) (sym (b.each m lt) ∙ h)));
   }
 

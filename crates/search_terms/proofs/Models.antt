@@ -1,5 +1,5 @@
-use Rattle.std.proofs.Common.{◌≡◌, ℕ, zero, suc, ◌+◌, ◌-◌, ◌<◌, ◌≤◌, Bool, true, false, not, ◌||◌, eqb, List, [], ◌∷◌, ◌++◌, length, get_or, take, refl, ap, ◌∙◌, arith, inl, inr, subst}
-use Rattle.std.proofs.lemmas.Option.{slice_get_within, slice_get-get_or, get_or_from_slice_get}
+use Rattle.std.proofs.Common.{◌≡◌, ℕ, zero, suc, ◌+◌, ◌-◌, ◌<◌, ◌≤◌, Bool, true, false, not, ◌||◌, eqb, List, [], ◌∷◌, ◌++◌, length, get_or, take, refl, ap}
+use Rattle.std.proofs.{Common.{◌∙◌, arith, inl, inr, subst}, lemmas.Option.{slice_get_within, slice_get-get_or, get_or_from_slice_get}}
 use Rattle.std.proofs.lemmas.Bool.{cases_Bool, and_parts, or_cases, eqb-true, or_parts}
 use Rattle.std.proofs.{lemmas.List.Elements.{All-contains, All-append, All-nil, All-cons, All-more, All-head, All-tail}, Math.Numerals.{add-one}}
 use Rattle.std.proofs.lemmas.List.{take_all}

@@ -1,5 +1,5 @@
-use Rattle.std.proofs.Common.{◌≡◌, ℕ, ◌+◌, ◌*◌, ◌<◌, Bool, true, false, not, ◌&&◌, ◌||◌, cond, List, [], ◌∷◌, ◌++◌, length, get_or, set, take, refl, ap, sym, ◌∙◌, arith, inl, inr, ◌⊎◌, Option, Some, None, subst}
-use Rattle.std.proofs.lemmas.List.{get_or-set_same, get_or-set_other}
+use Rattle.std.proofs.Common.{◌≡◌, ℕ, ◌+◌, ◌*◌, ◌<◌, Bool, true, false, not, ◌&&◌, ◌||◌, cond, List, [], ◌∷◌, ◌++◌, length, get_or, set, take, refl, ap, sym}
+use Rattle.std.proofs.{Common.{◌∙◌, arith, inl, inr, ◌⊎◌, Option, Some, None, subst}, lemmas.List.{get_or-set_same, get_or-set_other}}
 use Rattle.std.proofs.lemmas.List.Elements.{All-append, All-cons, All-nil, All-contains, Contains-append_right, All-more}
 use Rattle.std.proofs.{lemmas.Bool.{cases_eq, cases_Bool, and_parts, and_from, not-true}, lemmas.List.Sums.{sum_by-set}}
 use Rattle.std.specs.{Prelude.{All, Contains, find, IfSome, count_by}, List.{list_all}}

@@ -2,7 +2,8 @@
 -- least set: the unit propagation of Davis, Putnam, Logemann and Loveland.
 -- A sentence is a list of signed classes; at least one is to hold. A formula is a list of
 -- sentences. A set contradicts a signed class if it has the class with the other sign.
-use Rattle.std.specs.{Prelude.{◌≡◌, ℕ, ◌<◌, Bool, true, false, not, ◌&&◌, ◌||◌, ◌==◌, ◌⊎◌, List, All, Any}, List.{list_all, list_any}}
+use Rattle.std.specs.Prelude.{◌≡◌, ℕ, ◌<◌, Bool, true, false, not, ◌&&◌, ◌||◌, ◌==◌, ◌⊎◌, List, All}
+use Rattle.std.specs.{Prelude.{Any}, List.{list_all, list_any}}
 use Rattle.search_terms.specs.declared.literals.Literal.{Literal}
 
 -- a class with a sign

@@ -1,8 +1,12 @@
 -- The laws of search trees and logs.
-use Rattle.std.specs.Prelude.{◌≡◌, ◌↔◌, ℕ, ◌+◌, ◌*◌, ◌^◌, ◌<◌, ◌≤◌, Bool, false, List, [], length, None, Some, slice_index_or}
-use Rattle.row_book.specs.{Sets.{NumSet, Is, HitsAll}, Repository.{Repository, Healthy}, Flags.{flag}}
-use Rattle.search_terms.specs.{declared.literals.Literal.{Literal}, Closure.{InRange, Models, HaveNoModel}, Derives.{Derives}}
-use Rattle.search_terms.specs.{Tree.{Tree, IsTree, found_of, failed_leaves, log_of}, SearchTree.{search_tree}, Form.{form}}
+use Rattle.std.specs.Prelude.{◌≡◌, ◌↔◌, ℕ, ◌+◌, ◌*◌, ◌^◌, ◌<◌, ◌≤◌, Bool, false, List, [], length}
+use Rattle.std.specs.Prelude.{None, Some, slice_index_or}
+use Rattle.row_book.specs.{Sets.{NumSet, Is, HitsAll}, Repository.{Repository, Healthy}}
+use Rattle.row_book.specs.Flags.{flag}
+use Rattle.search_terms.specs.declared.literals.Literal.{Literal}
+use Rattle.search_terms.specs.{Closure.{InRange, Models, HaveNoModel}, Derives.{Derives}}
+use Rattle.search_terms.specs.Tree.{Tree, IsTree, found_of, failed_leaves, log_of}
+use Rattle.search_terms.specs.{SearchTree.{search_tree}, Form.{form}}
 
 -- what a search looks for: a healthy set that hits every goal
 abbrev pub Solves : Repository → List (List ℕ) → NumSet → Type 0

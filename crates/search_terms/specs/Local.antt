@@ -2,8 +2,10 @@
 -- the goals and, with a class, the members of its clauses, with the conflicts among them.
 use Rattle.std.specs.Prelude.{◌≡◌, ℕ, ◌<◌, Bool, true, List, [], map, length}
 use Rattle.listed.specs.Lists.{In}
-use Rattle.row_book.specs.{Sets.{NumSet}, Repository.{Repository, clauses_of, against}, Flags.{flag}}
-use Rattle.search_terms.specs.{Form.{form}, Tree.{Tree, IsTree}, Tree.Tree.{failed_leaf, found_leaf, split}}
+use Rattle.row_book.specs.{Sets.{NumSet}, Repository.{Repository, clauses_of, against}}
+use Rattle.row_book.specs.Flags.{flag}
+use Rattle.search_terms.specs.{Form.{form}, Tree.{Tree, IsTree}}
+use Rattle.search_terms.specs.Tree.Tree.{failed_leaf, found_leaf, split}
 
 -- What goals reach in a repository is in another one too, under other numbers in the same order.
 -- U holds the classes of the goals and, with a class, the members of its clauses; it may hold more.

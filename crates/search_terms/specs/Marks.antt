@@ -1,7 +1,9 @@
--- Further words for the bodies of the search and of the checker, and for the proofs.
-use Rattle.std.specs.Prelude.{◌≡◌, ℕ, zero, suc, ◌+◌, ◌*◌, Bool, true, false, ◌==◌, ◌⊎◌, List, map, slice_index_or, Contains, if◌then◌else◌}
+-- Further definitions, for the bodies of the search and of the checker, and for the proofs.
+use Rattle.std.specs.Prelude.{◌≡◌, ℕ, zero, suc, ◌+◌, ◌*◌, Bool, true, false, ◌==◌, ◌⊎◌, List, map}
+use Rattle.std.specs.Prelude.{slice_index_or, Contains, if◌then◌else◌}
 use Rattle.std.specs.List.{list_any, range_with_len}
-use Rattle.search_terms.specs.{declared.literals.Literal.{Literal}, Closure.{literal, negation, forces, is_refuted}}
+use Rattle.search_terms.specs.declared.literals.Literal.{Literal}
+use Rattle.search_terms.specs.Closure.{literal, negation, forces, is_refuted}
 
 -- a set has some class with both signs
 abbrev pub HasBoth : (Literal → Bool) → Type 0

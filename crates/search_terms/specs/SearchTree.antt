@@ -1,10 +1,14 @@
 -- The search tree of a formula, computed: a unit step adds one literal, and a node asks for one
 -- class.
-use Rattle.std.specs.Prelude.{ℕ, zero, suc, ◌*◌, Bool, true, false, not, ◌&&◌, ◌||◌, List, [], ◌∷◌, ◌++◌, map, if◌then◌else◌, Option, Some, None}
-use Rattle.std.specs.{List.{list_any, find, range_with_len}, Option.{option_map, option_map_or, option_and_then}}
+use Rattle.std.specs.Prelude.{ℕ, zero, suc, ◌*◌, Bool, true, false, not, ◌&&◌, ◌||◌, List, [], ◌∷◌}
+use Rattle.std.specs.Prelude.{◌++◌, map, if◌then◌else◌, Option, Some, None}
+use Rattle.std.specs.List.{list_any, find, range_with_len}
+use Rattle.std.specs.Option.{option_map, option_map_or, option_and_then}
 use Rattle.row_book.specs.Flattening.{first_some}
-use Rattle.search_terms.specs.{declared.literals.Literal.{Literal}, Closure.{literal, is_same, forces, is_refuted}, Marks.{true_classes}}
-use Rattle.search_terms.specs.{Tree.{is_open_need, is_undecided, Tree}, Tree.Tree.{failed_leaf, found_leaf, split}}
+use Rattle.search_terms.specs.declared.literals.Literal.{Literal}
+use Rattle.search_terms.specs.{Closure.{literal, is_same, forces, is_refuted}, Marks.{true_classes}}
+use Rattle.search_terms.specs.Tree.{is_open_need, is_undecided, Tree}
+use Rattle.search_terms.specs.Tree.Tree.{failed_leaf, found_leaf, split}
 
 -- the first literal of the sentence that it forces and the set lacks
 abbrev pub unit_in : (Literal → Bool) → List Literal → Option Literal

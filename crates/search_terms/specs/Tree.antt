@@ -1,8 +1,10 @@
 -- The search tree of a formula, its failed leaves, what it finds, and its log. A node is a list of
 -- decisions; its closure is that of the decisions over the formula.
-use Rattle.std.specs.Prelude.{◌≡◌, ℕ, ◌+◌, ◌<◌, Bool, true, false, not, ◌&&◌, List, [], ◌∷◌, ◌++◌, length, map, slice_index_or, if◌then◌else◌, Option, Some, None, is_some}
-use Rattle.std.specs.List.{list_all, find}
-use Rattle.search_terms.specs.{declared.literals.Literal.{Literal}, Closure.{literal, negation, IsClosure, Clashes}}
+use Rattle.std.specs.Prelude.{◌≡◌, ℕ, ◌+◌, ◌<◌, Bool, true, false, not, ◌&&◌, List, [], ◌∷◌, ◌++◌}
+use Rattle.std.specs.Prelude.{length, map, slice_index_or, if◌then◌else◌, Option, Some, None}
+use Rattle.std.specs.{Prelude.{is_some}, List.{list_all, find}}
+use Rattle.search_terms.specs.declared.literals.Literal.{Literal}
+use Rattle.search_terms.specs.Closure.{literal, negation, IsClosure, Clashes}
 
 -- An open need: the negated classes of the sentence are true, and none of its other members is. In
 -- the formula of a repository and goals this is a goal without a true member, or a clause of a true

@@ -1,6 +1,8 @@
 //! The laws of search trees and logs. The functions do nothing: the contract of each is one law.
-ghost use Rattle.search_terms.specs.Laws.{TreeIsThere, TreeIsOne, SearchTreeIs, BudgetIsEnough, SmallTreesAreWalked, LogIsShort, FoundIsModel, LogDerives, DerivesNoModel, DerivesNoSolution, ModelsAreHealthy, FindsHealthy};
-ghost use Rattle.search_terms.specs.Local.{TreeIsLocal};
+ghost use Rattle.search_terms.specs.Laws.{TreeIsThere, TreeIsOne, SearchTreeIs, BudgetIsEnough};
+ghost use Rattle.search_terms.specs.Laws.{SmallTreesAreWalked, LogIsShort, FoundIsModel};
+ghost use Rattle.search_terms.specs.Laws.{LogDerives, DerivesNoModel, DerivesNoSolution};
+ghost use Rattle.search_terms.specs.{Laws.{ModelsAreHealthy, FindsHealthy}, Local.{TreeIsLocal}};
 
 /// Each formula has a tree.
 pub fn tree_is_there()
@@ -12,7 +14,7 @@ pub fn tree_is_one()
     ensures { TreeIsOne }
 {}
 
-/// The tree of a formula is the one that is computed.
+/// The search tree that is computed for a formula is a tree of the formula.
 pub fn search_tree_is()
     ensures { SearchTreeIs }
 {}
@@ -27,8 +29,7 @@ pub fn small_trees_are_walked()
     ensures { SmallTreesAreWalked }
 {}
 
-/// The log of a tree that finds nothing has one entry less than twice the number of its failed
-/// leaves.
+/// If a tree finds nothing and has n failed leaves, its log has 2n - 1 entries.
 pub fn log_is_short()
     ensures { LogIsShort }
 {}
@@ -58,7 +59,7 @@ pub fn models_are_healthy()
     ensures { ModelsAreHealthy }
 {}
 
-/// A tree finds something exactly if some healthy set hits every goal.
+/// The tree of a repository's formula finds something exactly if some healthy set hits every goal.
 pub fn finds_healthy()
     ensures { FindsHealthy }
 {}

@@ -1,9 +1,10 @@
 -- A text in which the lines of some stanzas are made empty has the other stanzas.
-use Rattle.std.proofs.Common.{◌≡◌, ℕ, ◌+◌, ◌<◌, ◌≤◌, suc, Bool, true, false, ◌||◌, ◌&&◌, ◌⊎◌, inl, inr, List, [], ◌∷◌, ◌++◌, length, take, drop, min, map, Result, Ok, Err, refl, ap, sym, ◌∙◌, subst, arith, append_assoc, length-append}
-use Rattle.std.proofs.{lemmas.Bool.{eqb-true, or_parts}, lemmas.List.{append-nil}, lemmas.List.Folds.{list_all-append, list_any-append}, Math.Bool.{or-false}}
+use Rattle.std.proofs.Common.{◌≡◌, ℕ, ◌+◌, ◌<◌, ◌≤◌, suc, Bool, true, false, ◌||◌, ◌&&◌, ◌⊎◌, inl, inr, List, [], ◌∷◌, ◌++◌, length, take, drop, min, map}
+use Rattle.std.proofs.{Common.{Result, Ok, Err, refl, ap, sym, ◌∙◌, subst, arith, append_assoc, length-append}, lemmas.Bool.{eqb-true, or_parts}}
+use Rattle.std.proofs.{lemmas.List.{append-nil}, lemmas.List.Folds.{list_all-append, list_any-append}, Math.Bool.{or-false}}
 use Rattle.std.specs.List.{concat, list_all, list_any, onto_first, position_or_len}
-use Rattle.stanza_reader.specs.Blanking.{whole_lines, is_blank_whole, is_at_blank, first_flag, emptied, line_left, flags_behind, lines_left, blanked, picked, HasPicked}
-use Rattle.stanza_reader.specs.{Fields.{is_edge}, Lines.{Line, is_line_feed, is_blank_byte, is_blank, lines, numbered}}
+use Rattle.stanza_reader.specs.Blanking.{whole_lines, is_blank_whole, is_at_blank, first_flag, emptied, line_left, flags_behind, lines_left, blanked, picked}
+use Rattle.stanza_reader.specs.{Blanking.{HasPicked}, Fields.{is_edge}, Lines.{Line, is_line_feed, is_blank_byte, is_blank, lines, numbered}}
 use Rattle.stanza_reader.specs.Stanzas.{groups, has_line, first_group, behind_group, stanza_of, readings, with_first, all_or_fault, stanzas}
 use Rattle.stanza_reader.specs.{declared.fault.StanzaFault.{StanzaFault}, declared.stanza.RawStanza.{RawStanza}}
 use Rattle.stanza_reader.proofs.GroupLemmas.{groups_first}

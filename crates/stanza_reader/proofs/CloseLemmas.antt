@@ -1,6 +1,7 @@
 -- The front of a text that is closed by the first blank line behind a group of lines.
-use Rattle.std.proofs.Common.{◌≡◌, ℕ, ◌+◌, ◌-◌, ◌<◌, ◌≤◌, Bool, true, false, ◌&&◌, ◌||◌, List, [], ◌∷◌, ◌++◌, length, take, drop, get_or, refl, ap, sym, ◌∙◌, subst, arith, append_assoc}
-use Rattle.std.proofs.{lemmas.Grind.{take_at_read}, lemmas.List.{append_cancel_right, drop_all, length-drop, length-map, take-append-drop, take_all}}
+use Rattle.std.proofs.Common.{◌≡◌, ℕ, ◌+◌, ◌-◌, ◌<◌, ◌≤◌, Bool, true, false, ◌&&◌, ◌||◌, List, [], ◌∷◌, ◌++◌, length, take, drop, get_or, refl, ap, sym, ◌∙◌}
+use Rattle.std.proofs.{Common.{subst, arith, append_assoc}, lemmas.Grind.{take_at_read}}
+use Rattle.std.proofs.lemmas.List.{append_cancel_right, drop_all, length-drop, length-map, take-append-drop, take_all}
 use Rattle.std.proofs.{lemmas.List.Sums.{prefix_len-le-length}, lemmas.Bool.{eqb-true, and_parts, or_parts}}
 use Rattle.std.specs.List.{list_all, list_any, position_or_len, before_first, after_first}
 use Rattle.stanza_reader.specs.{Lines.{Line, is_line_feed, is_blank_byte, is_blank, lines, numbered}, Places.{lines_at}}

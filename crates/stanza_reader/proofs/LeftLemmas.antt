@@ -1,6 +1,6 @@
 -- A text in which the lines of some stanzas are made empty has the other stanzas.
-use Rattle.std.proofs.Common.{◌≡◌, ℕ, ◌+◌, ◌≤◌, Bool, true, false, ◌||◌, List, [], ◌∷◌, ◌++◌, length, refl, ap, sym, ◌∙◌, subst, arith, append_assoc, length-append}
-use Rattle.std.proofs.lemmas.List.{append-nil}
+use Rattle.std.proofs.Common.{◌≡◌, ℕ, ◌+◌, ◌≤◌, Bool, true, false, ◌||◌, List, [], ◌∷◌, ◌++◌, length, refl, ap, sym, ◌∙◌, subst, arith, append_assoc}
+use Rattle.std.proofs.{Common.{length-append}, lemmas.List.{append-nil}}
 use Rattle.std.specs.List.{concat, list_any}
 use Rattle.stanza_reader.specs.{Blanking.{whole_lines, is_blank_whole, first_flag, emptied, line_left, flags_behind, lines_left, blanked}, Lines.{is_line_feed}}
 use Rattle.stanza_reader.proofs.BlankLemmas.{concat_whole}

@@ -1,8 +1,10 @@
 -- Texts in which the lines of some stanzas are made empty, so that the other lines keep their
 -- numbers.
-use Rattle.std.specs.Prelude.{◌≡◌, ℕ, Bool, true, false, not, ◌&&◌, ◌||◌, if◌then◌else◌, List, [], ◌∷◌, drop, length, Ok}
+use Rattle.std.specs.Prelude.{◌≡◌, ℕ, Bool, true, false, not, ◌&&◌, ◌||◌, if◌then◌else◌, List, []}
+use Rattle.std.specs.Prelude.{◌∷◌, drop, length, Ok}
 use Rattle.std.specs.List.{concat, list_all, list_any, onto_first}
-use Rattle.stanza_reader.specs.{Fields.{is_edge}, Lines.{is_line_feed}, Stanzas.{stanzas}, declared.stanza.RawStanza.{RawStanza}}
+use Rattle.stanza_reader.specs.{Fields.{is_edge}, Lines.{is_line_feed}, Stanzas.{stanzas}}
+use Rattle.stanza_reader.specs.declared.stanza.RawStanza.{RawStanza}
 
 -- the text cut after each line feed: its lines, each with its line feed, but for a last one that
 -- has none

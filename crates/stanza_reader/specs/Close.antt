@@ -1,8 +1,10 @@
 -- Fronts of a text after which no stanza goes on.
-use Rattle.std.specs.Prelude.{◌≡◌, ℕ, ◌+◌, ◌≤◌, Bool, true, false, List, [], ◌∷◌, ◌++◌, Result, Ok, Err, length, take, map, count_by}
-use Rattle.std.specs.List.{list_all, list_any}
-use Rattle.stanza_reader.specs.{Lines.{is_line_feed, is_blank, lines, numbered}, Stanzas.{groups, stanza_of, all_or_fault}}
-use Rattle.stanza_reader.specs.{declared.stanza.RawStanza.{RawStanza}, declared.fault.StanzaFault.{StanzaFault}}
+use Rattle.std.specs.Prelude.{◌≡◌, ℕ, ◌+◌, ◌≤◌, Bool, true, false, List, [], ◌∷◌, ◌++◌, Result, Ok}
+use Rattle.std.specs.{Prelude.{Err, length, take, map, count_by}, List.{list_all, list_any}}
+use Rattle.stanza_reader.specs.Lines.{is_line_feed, is_blank, lines, numbered}
+use Rattle.stanza_reader.specs.Stanzas.{groups, stanza_of, all_or_fault}
+use Rattle.stanza_reader.specs.declared.stanza.RawStanza.{RawStanza}
+use Rattle.stanza_reader.specs.declared.fault.StanzaFault.{StanzaFault}
 
 -- whether each line of a text ends with a line feed: the text is empty, or its last byte is one
 abbrev pub is_ended : List ℕ → Bool

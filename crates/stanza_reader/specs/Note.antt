@@ -1,10 +1,15 @@
 -- for the bodies of this crate alone
 -- The names of the field lines so far, as they are noted one by one.
-use Rattle.std.specs.Prelude.{◌≡◌, ℕ, ◌+◌, ◌-◌, ◌*◌, ◌/◌, ◌^◌, ◌%◌, ◌<◌, false, ◌||◌, ◌==◌, nat_lt, bit_and, bit_or, List, [], ◌∷◌, ◌++◌, length, slice_index, map, Option, None, if◌then◌else◌}
-use Rattle.std.specs.{Int.{w32, from_be_bytes}, BTreeSet.{BTreeSet, contains}, Cmp.Lexicographic.{slice_cmp}, List.{list_any}, Option.{option_or}}
-use Rattle.std.specs.{Ordering.{nat_cmp}, Str.{bytes_eq}, declared.cmp.Ordering.{Ordering}, declared.vec.Vec.{Vec}}
-use Rattle.stanza_reader.specs.{Fields.{lowered, name_of}, Lines.{Line, is_continuation}, Stanzas.{has_name, repeat_fault}}
-use Rattle.stanza_reader.specs.{declared.fault.StanzaFault.{StanzaFault}, declared.note.KeyedName.{KeyedName}, declared.note.Names.{Names}}
+use Rattle.std.specs.Prelude.{◌≡◌, ℕ, ◌+◌, ◌-◌, ◌*◌, ◌/◌, ◌^◌, ◌%◌, ◌<◌, false, ◌||◌, ◌==◌, nat_lt}
+use Rattle.std.specs.Prelude.{bit_and, bit_or, List, [], ◌∷◌, ◌++◌, length, slice_index, map}
+use Rattle.std.specs.{Prelude.{Option, None, if◌then◌else◌}, Int.{w32, from_be_bytes}}
+use Rattle.std.specs.{BTreeSet.{BTreeSet, contains}, Cmp.Lexicographic.{slice_cmp}, List.{list_any}}
+use Rattle.std.specs.{Option.{option_or}, Ordering.{nat_cmp}, Str.{bytes_eq}}
+use Rattle.std.specs.{declared.cmp.Ordering.{Ordering}, declared.vec.Vec.{Vec}}
+use Rattle.stanza_reader.specs.{Fields.{lowered, name_of}, Lines.{Line, is_continuation}}
+use Rattle.stanza_reader.specs.Stanzas.{has_name, repeat_fault}
+use Rattle.stanza_reader.specs.declared.fault.StanzaFault.{StanzaFault}
+use Rattle.stanza_reader.specs.{declared.note.KeyedName.{KeyedName}, declared.note.Names.{Names}}
 
 -- a number of a text, below 2 ^ 32
 abbrev pub key_from : ℕ → List ℕ → ℕ

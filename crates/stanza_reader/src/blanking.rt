@@ -1,6 +1,9 @@
 //! Texts in which the lines of some stanzas are made empty.
-ghost use Rattle.std.specs.{Prelude.{◌≡◌, ◌∷◌, ◌++◌, ◌<◌, ◌≤◌, length, if◌then◌else◌, IfOk, OnOk}, List.{list_any}};
-ghost use Rattle.stanza_reader.specs.Blanking.{blanked, emptied, ends_stanza, first_flag, flags_behind, is_at_blank, is_blank_whole, stays, whole_lines, HasFlags, HasPicked};
+ghost use Rattle.std.specs.Prelude.{◌≡◌, ◌∷◌, ◌++◌, ◌<◌, ◌≤◌, length, if◌then◌else◌, IfOk, OnOk};
+ghost use Rattle.std.specs.List.{list_any};
+ghost use Rattle.stanza_reader.specs.Blanking.{blanked, emptied, ends_stanza, first_flag};
+ghost use Rattle.stanza_reader.specs.Blanking.{flags_behind, is_at_blank, is_blank_whole, stays};
+ghost use Rattle.stanza_reader.specs.Blanking.{whole_lines, HasFlags, HasPicked};
 ghost use Rattle.stanza_reader.specs.Lines.{is_line_feed};
 
 use crate::lines::line_end;

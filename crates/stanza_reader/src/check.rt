@@ -1,7 +1,8 @@
 //! The shape of a field line.
 
 ghost use Rattle.std.specs.Prelude.{◌≡◌, false, None, Some, OnOk, IfOk, IfErr};
-ghost use Rattle.stanza_reader.specs.{Fields.{name_of}, Lines.{is_continuation}, Stanzas.{line_fault}};
+ghost use Rattle.stanza_reader.specs.{Fields.{name_of}, Lines.{is_continuation}};
+ghost use Rattle.stanza_reader.specs.Stanzas.{line_fault};
 
 use crate::fault::StanzaFault;
 use crate::names::{

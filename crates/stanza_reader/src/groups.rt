@@ -2,7 +2,8 @@
 
 ghost use Rattle.std.specs.Prelude.{◌≡◌, ◌<◌, ◌≤◌, length, true, Ok, Err, IfOk, IfErr};
 ghost use Rattle.stanza_reader.specs.{Places.{CountsOn, IsPlace, lines_at}, Reading.{OnTextFault}};
-ghost use Rattle.stanza_reader.specs.Stanzas.{behind_blank, behind_group, first_group, has_line, stanza_of};
+ghost use Rattle.stanza_reader.specs.Stanzas.{behind_blank, behind_group, first_group, has_line};
+ghost use Rattle.stanza_reader.specs.Stanzas.{stanza_of};
 
 use crate::fault::StanzaFault;
 use crate::lines::{is_blank, is_continuation};

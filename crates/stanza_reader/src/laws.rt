@@ -1,6 +1,7 @@
 //! The laws of texts that are read in parts.
 
-ghost use Rattle.stanza_reader.specs.Close.{ClosedFrontIsClosed, ClosedFrontIsOne, ClosedTextsJoin, ReadsInParts, StanzasInParts};
+ghost use Rattle.stanza_reader.specs.Close.{ClosedFrontIsClosed, ClosedFrontIsOne, ClosedTextsJoin};
+ghost use Rattle.stanza_reader.specs.Close.{ReadsInParts, StanzasInParts};
 
 /// A text reads as its two parts, one after the other, if the first part is closed.
 pub fn reads_in_parts()

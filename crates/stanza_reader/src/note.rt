@@ -4,9 +4,11 @@
 //! Bloom filter of 64 bits) make most comparisons needless. Further names go into an ordered set,
 //! so a stanza takes time nearly linear in its length, whatever its names are.
 
-ghost use Rattle.std.specs.Prelude.{◌≡◌, ◌<◌, ◌≤◌, [], ◌∷◌, None, true, not, length, OnOk, IfOk, All, List, ℕ};
-ghost use Rattle.stanza_reader.specs.{Fields.{is_same_name, lowered}, Note.{Holds, IsKeyed, IsMarked, IsNoted, key_of, long_key, mark_of, names_in, short_key}};
-ghost use Rattle.stanza_reader.specs.Stanzas.{has_name};
+ghost use Rattle.std.specs.Prelude.{◌≡◌, ◌<◌, ◌≤◌, [], ◌∷◌, None, true, not, length, OnOk, IfOk};
+ghost use Rattle.std.specs.Prelude.{All, List, ℕ};
+ghost use Rattle.stanza_reader.specs.Fields.{is_same_name, lowered};
+ghost use Rattle.stanza_reader.specs.Note.{Holds, IsKeyed, IsMarked, IsNoted, key_of, long_key};
+ghost use Rattle.stanza_reader.specs.{Note.{mark_of, names_in, short_key}, Stanzas.{has_name}};
 
 use crate::fault::StanzaFault;
 use std::alloc::{AllocError, Global};

@@ -2,7 +2,8 @@
 
 ghost use Rattle.std.specs.Prelude.{◌≡◌, ◌<◌, length, [], true, None, Some, OnOk, IfOk, IfErr};
 ghost use Rattle.stanza_reader.specs.{Places.{CountsOn, IsPlace, lines_at}, Reading.{OnTextFault}};
-ghost use Rattle.stanza_reader.specs.Stanzas.{behind_group, first_group, first_line_fault, has_line, kept_fields, repeat_fault};
+ghost use Rattle.stanza_reader.specs.Stanzas.{behind_group, first_group, first_line_fault};
+ghost use Rattle.stanza_reader.specs.Stanzas.{has_line, kept_fields, repeat_fault};
 
 use crate::check::checked_name;
 use crate::fault::StanzaFault;

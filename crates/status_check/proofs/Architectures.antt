@@ -1,6 +1,8 @@
 -- No architecture of a status file is a fault.
-use Rattle.std.proofs.Common.{◌≡◌, ℕ, zero, suc, ◌+◌, Bool, true, false, not, ◌||◌, cond, inl, inr, List, [], ◌∷◌, take, map, find, length, Option, Some, None, Result, Ok, Err, refl, ap, sym, ◌∙◌, subst}
-use Rattle.std.proofs.{lemmas.Bool.{and_parts, or_cases, or_left, or_right, both_ways, not-true}, lemmas.List.{take-map}, lemmas.Slice.Eq.{bytes_eq-Decides}}
+use Rattle.std.proofs.Common.{◌≡◌, ℕ, zero, suc, ◌+◌, Bool, true, false, not, ◌||◌, cond, inl, inr, List, [], ◌∷◌, take, map, find, length, Option, Some, None}
+use Rattle.std.proofs.Common.{Result, Ok, Err, refl, ap, sym, ◌∙◌, subst}
+use Rattle.std.proofs.{lemmas.Bool.{and_parts, or_cases, or_left, or_right, both_ways, not-true, not-false}, lemmas.List.{take-map}}
+use Rattle.std.proofs.lemmas.Slice.Eq.{bytes_eq-Decides}
 use Rattle.std.specs.{Prelude.{codes, nat_le, is_some}, Option.{option_and_then, option_map, option_map_or, option_or}, Str.{bytes_eq}}
 use Rattle.deb_version.specs.{Grammar.{is_version}, Names.{is_name}}
 use Rattle.relation_fields.specs.{Fields.{first_outside}, Grammar.{is_architecture, alternatives_of, atom_of, provide_of}, declared.packages.Home.{Home}}
@@ -11,10 +13,11 @@ use Rattle.stanza_reader.specs.declared.stanza.FieldKind.TheVariants as kind
 use Rattle.stanza_reader.specs.{declared.stanza.RawField.{RawField}, declared.stanza.RawStanza.{RawStanza}}
 use Rattle.stanza_reader.proofs.BlankLemmas.{good, good_readings, map_picked, readings_picked}
 use Rattle.repo_model.specs.{Facts.{architecture_of, facts_of, is_all, is_same_package}, Fields.{field_of}}
-use Rattle.repo_model.specs.FirstFault.{bad_relation, bad_value, duplicate_fault, fault_behind, faults_from, first_fault, first_present, home_of, is_at_home, missing, mixed_fault, presence_fault, stanza_fault, stanzas_in, unless_good, value_fault}
+use Rattle.repo_model.specs.FirstFault.{bad_relation, bad_value, duplicate_fault, fault_behind, faults_from, first_fault, first_present, home_of, is_at_home}
+use Rattle.repo_model.specs.FirstFault.{missing, mixed_fault, presence_fault, stanza_fault, stanzas_in, unless_good, value_fault}
 use Rattle.repo_model.specs.declared.fault.IndexFault.{IndexFault}
-use Rattle.repo_model.specs.declared.fault.IndexFault.TheVariants.{Stanza, MissingPackage, MissingVersion, BadPackage, BadVersion, BadArchitecture, BadRelation, Duplicate, Mixed, TooMany, Memory}
-use Rattle.repo_model.specs.Limits.{most_packages}
+use Rattle.repo_model.specs.declared.fault.IndexFault.TheVariants.{Stanza, MissingPackage, MissingVersion, BadPackage, BadVersion, BadArchitecture, BadRelation}
+use Rattle.repo_model.specs.{declared.fault.IndexFault.TheVariants.{Duplicate, Mixed, TooMany, Memory}, Limits.{most_packages}}
 use Rattle.suite_compare.specs.Refusals.{home_in}
 use Rattle.status_check.specs.{Installed.{is_elsewhere, is_installed, is_of_home, is_own}, Laws.{NoArchitectureFault}, Own.{own_stanzas_text, status_fault}}
 use Rattle.status_check.proofs.{NamedHomes.{IsNamedHome, named_home}, OwnTexts.{all_stanzas, lines_faulty, lines_fine, stanzas_good}}
@@ -59,15 +62,11 @@ own_picked home (stanza ∷ more) = go (own_picked home more) (is_own home stanz
     go later true own = let kept : picked (map (is_own home) (stanza ∷ more)) (stanza ∷ more) ≡ stanza ∷ picked (map (is_own home) more) more = rw own refl in subst (AreOwn home) (sym kept) (own, later)
     go later false other = let kept : picked (map (is_own home) (stanza ∷ more)) (stanza ∷ more) ≡ picked (map (is_own home) more) more = rw other refl in subst (AreOwn home) (sym kept) later
 
-not_down : (b : Bool) → not b ≡ false → b ≡ true
-not_down true h = refl
-not_down false h = cc
-
 -- the architecture of an own stanza is `all` or the home
 known : (home : Home) (stanza : RawStanza) (field : RawField) → is_own home stanza ≡ true → field_of kind.Architecture stanza ≡ Some field → (is_all field.value || is_of_home home field.value) ≡ true
 known home stanza field own e =
     let here : is_elsewhere home stanza ≡ not (is_all field.value || is_of_home home field.value) = ap (λ found. option_map_or (λ (f : RawField). not (is_all f.value || is_of_home home f.value)) found false) e in
-    not_down (is_all field.value || is_of_home home field.value) (sym here ∙ not-true (is_elsewhere home stanza) (and_parts (is_installed stanza) (not (is_elsewhere home stanza)) own).1)
+    not-false (is_all field.value || is_of_home home field.value) (sym here ∙ not-true (is_elsewhere home stanza) (and_parts (is_installed stanza) (not (is_elsewhere home stanza)) own).1)
 
 named_value : (name : Option (List ℕ)) (value : List ℕ) → IsNamedHome name → option_map_or (bytes_eq value) name false ≡ true → is_architecture value ≡ true
 named_value None value named e = cc

@@ -1,6 +1,6 @@
 -- The goals of the packages that an index has, one after another.
-use Rattle.std.proofs.Common.{◌≡◌, ℕ, zero, suc, ◌+◌, ◌<◌, Bool, true, false, not, cond, List, [], ◌∷◌, ◌++◌, length, get_or, take, map, filter, eqb, refl, ap, sym, ◌∙◌, subst, arith}
-use Rattle.std.proofs.{lemmas.List.{append-nil, map-append, take_more}, lemmas.List.Elements.{filter-append}}
+use Rattle.std.proofs.Common.{◌≡◌, ℕ, zero, suc, ◌+◌, ◌<◌, Bool, true, false, not, cond, List, [], ◌∷◌, ◌++◌, length, get_or, take, map, filter, eqb, refl, ap}
+use Rattle.std.proofs.{Common.{sym, ◌∙◌, subst, arith}, lemmas.List.{append-nil, map-append, take_more}, lemmas.List.Elements.{filter-append}}
 use Rattle.relation_fields.specs.{declared.packages.Home.{Home}, declared.packages.PackageFacts.{PackageFacts}}
 use Rattle.repo_model.specs.{Goals.{packages_named}, Repository.{suite_repository}, declared.goals.Goal.{Goal}}
 use Rattle.listed.specs.Lists.{Ascending, In}

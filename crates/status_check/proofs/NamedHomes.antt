@@ -7,9 +7,9 @@ use Rattle.stanza_reader.specs.{Stanzas.{readings}, declared.fault.StanzaFault.{
 use Rattle.stanza_reader.specs.declared.stanza.FieldKind.TheVariants as kind
 use Rattle.stanza_reader.specs.{declared.stanza.RawField.{RawField}, declared.stanza.RawStanza.{RawStanza}}
 use Rattle.repo_model.specs.{Facts.{architecture_of, is_all}, Fields.{field_of}}
-use Rattle.repo_model.specs.FirstFault.{bad_value, fault_behind, faults_from, first_fault, first_present, home_of, own_fault, presence_fault, reading_fault, stanzas_in, stanzas_of, unless_good, value_fault}
-use Rattle.repo_model.specs.{declared.fault.IndexFault.{IndexFault}, declared.fault.IndexFault.TheVariants.{BadArchitecture, BadPackage, BadVersion, TooMany}}
-use Rattle.repo_model.specs.Limits.{most_packages}
+use Rattle.repo_model.specs.FirstFault.{bad_value, fault_behind, faults_from, first_fault, first_present, home_of, own_fault, presence_fault, reading_fault}
+use Rattle.repo_model.specs.{FirstFault.{stanzas_in, stanzas_of, unless_good, value_fault}, declared.fault.IndexFault.{IndexFault}}
+use Rattle.repo_model.specs.{declared.fault.IndexFault.TheVariants.{BadArchitecture, BadPackage, BadVersion, TooMany}, Limits.{most_packages}}
 use Rattle.repo_model.proofs.WellFormed.{none_of}
 
 abbrev pub IsNamedHome : Option (List ℕ) → Type 0

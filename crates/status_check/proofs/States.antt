@@ -1,6 +1,7 @@
 -- The state of a set of packages as a function: it is one, and there is no other.
-use Rattle.std.proofs.Common.{◌≡◌, ℕ, zero, suc, ◌<◌, ◌≤◌, ◌⊎◌, Bool, true, false, not, ◌&&◌, List, [], ◌∷◌, ◌++◌, length, map, filter, Some, None, inl, inr, refl, sym, ap, ap₂, subst, ◌∙◌, arith, zero-le}
-use Rattle.std.proofs.{Math.Nat.{eq-or-lt_of_le}, lemmas.Bool.{both_ways, cases_Bool, cases_lt, not-true, and_from, and_parts}}
+use Rattle.std.proofs.Common.{◌≡◌, ℕ, zero, suc, ◌<◌, ◌≤◌, ◌⊎◌, Bool, true, false, not, ◌&&◌, List, [], ◌∷◌, ◌++◌, length, map, filter, Some, None, inl, inr}
+use Rattle.std.proofs.{Common.{refl, sym, ap, ap₂, subst, ◌∙◌, arith, zero-le}, Math.Nat.{eq-or-lt_of_le}}
+use Rattle.std.proofs.lemmas.Bool.{both_ways, cases_Bool, cases_lt, not-true, and_from, and_parts}
 use Rattle.std.specs.{Prelude.{⊤, find, slice_index_or}, List.{list_all, list_any}}
 use Rattle.listed.proofs.Bools.{cases_Option}
 use Rattle.listed.proofs.Lists.{In_append_cases, In_at, In_cases, In_map_cases, In_none, all_at, filter_cases, filter_from, find_none, find_some}

@@ -1,6 +1,6 @@
 -- The words of a text, one after another.
-use Rattle.std.proofs.Common.{◌≡◌, ℕ, ◌+◌, ◌<◌, suc, Bool, true, false, List, [], ◌∷◌, length, take, drop, filter, cond, eqb, ◌≤◌, Some, None, refl, ap, sym, ◌∙◌, arith}
-use Rattle.std.proofs.{lemmas.Bool.{eqb-true, ltb-false}, lemmas.List.Sums.{prefix_len-le-length}}
+use Rattle.std.proofs.Common.{◌≡◌, ℕ, ◌+◌, ◌<◌, suc, Bool, true, false, List, [], ◌∷◌, length, take, drop, filter, cond, eqb, ◌≤◌, Some, None, refl, ap, sym}
+use Rattle.std.proofs.{Common.{◌∙◌, arith}, lemmas.Bool.{eqb-true, ltb-false}, lemmas.List.Sums.{prefix_len-le-length}}
 use Rattle.std.specs.{Prelude.{nat_lt}, List.{slice_split, onto_first, position, position_or_len}}
 use Rattle.stanza_reader.specs.Fields.{is_edge, trimmed_start}
 use Rattle.status_check.specs.Installed.{has_byte, words}

@@ -1,8 +1,11 @@
 -- Which stanzas of a dpkg status file are of installed packages, and which of these are of an
 -- architecture that an index knows nothing of. A value of `Status` is three words: what is wanted,
 -- a flag for errors, and the state of the package.
-use Rattle.std.specs.{Prelude.{ℕ, Bool, true, false, not, ◌&&◌, ◌||◌, List, [], ◌∷◌, codes, filter}, List.{slice_split}, Option.{option_map_or}, Str.{bytes_eq}}
-use Rattle.stanza_reader.specs.{Fields.{is_edge}, declared.stanza.FieldKind.TheVariants.{Architecture, Status}, declared.stanza.RawStanza.{RawStanza}}
+use Rattle.std.specs.Prelude.{ℕ, Bool, true, false, not, ◌&&◌, ◌||◌, List, [], ◌∷◌, codes, filter}
+use Rattle.std.specs.{List.{slice_split}, Option.{option_map_or}, Str.{bytes_eq}}
+use Rattle.stanza_reader.specs.Fields.{is_edge}
+use Rattle.stanza_reader.specs.declared.stanza.FieldKind.TheVariants.{Architecture, Status}
+use Rattle.stanza_reader.specs.declared.stanza.RawStanza.{RawStanza}
 use Rattle.relation_fields.specs.declared.packages.Home.{Home}
 use Rattle.repo_model.specs.{Facts.{is_all}, Fields.{field_of, value_of}}
 

@@ -1,6 +1,7 @@
 -- Which faults a status file never has.
 use Rattle.std.specs.Prelude.{◌≡◌, ℕ, List, Some, None}
-use Rattle.repo_model.specs.{FirstFault.{first_fault}, declared.fault.IndexFault.TheVariants.{BadArchitecture, Mixed}}
+use Rattle.repo_model.specs.FirstFault.{first_fault}
+use Rattle.repo_model.specs.declared.fault.IndexFault.TheVariants.{BadArchitecture, Mixed}
 use Rattle.suite_compare.specs.Refusals.{home_in}
 use Rattle.status_check.specs.Own.{status_fault}
 

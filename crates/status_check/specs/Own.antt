@@ -1,9 +1,13 @@
 -- The own packages of a dpkg status file, which are installed and not foreign to the home of an
 -- index, and the fault of the file.
-use Rattle.std.specs.{Prelude.{ℕ, List, Option, map, count_by}, Option.{option_map, option_or}, Result.{result_err}}
+use Rattle.std.specs.{Prelude.{ℕ, List, Option, map, count_by}, Option.{option_map, option_or}}
+use Rattle.std.specs.Result.{result_err}
 use Rattle.stanza_reader.specs.{Blanking.{blanked}, Stanzas.{stanzas}}
-use Rattle.relation_fields.specs.{declared.packages.Home.{Home}, declared.packages.PackageFacts.{PackageFacts}}
-use Rattle.repo_model.specs.{FirstFault.{first_fault, stanzas_of}, declared.fault.IndexFault.{IndexFault}, declared.fault.IndexFault.TheVariants.{Stanza}}
+use Rattle.relation_fields.specs.declared.packages.Home.{Home}
+use Rattle.relation_fields.specs.declared.packages.PackageFacts.{PackageFacts}
+use Rattle.repo_model.specs.FirstFault.{first_fault, stanzas_of}
+use Rattle.repo_model.specs.declared.fault.IndexFault.{IndexFault}
+use Rattle.repo_model.specs.declared.fault.IndexFault.TheVariants.{Stanza}
 use Rattle.suite_compare.specs.Refusals.{home_in, packages_in}
 use Rattle.status_check.specs.Installed.{is_foreign, is_own}
 

@@ -1,11 +1,15 @@
 -- What is said of the own packages of a status file against an index.
 use Rattle.std.specs.Prelude.{⊤, ℕ, ◌+◌, Bool, true, not, List, map, filter}
-use Rattle.row_book.specs.{Flags.{flag}, Health.{ClashFirst, UnhitFirst}, Repository.{Repository, Healthy}, Sets.{NumSet}}
-use Rattle.clause_solver.specs.{declared.outcomes.Verdict.{Verdict}, declared.outcomes.Verdict.TheVariants.{Yes, No, Spent}}
-use Rattle.relation_fields.specs.{declared.packages.Home.{Home}, declared.packages.PackageFacts.{PackageFacts}}
+use Rattle.row_book.specs.{Flags.{flag}, Health.{ClashFirst, UnhitFirst}}
+use Rattle.row_book.specs.{Repository.{Repository, Healthy}, Sets.{NumSet}}
+use Rattle.clause_solver.specs.declared.outcomes.Verdict.{Verdict}
+use Rattle.clause_solver.specs.declared.outcomes.Verdict.TheVariants.{Yes, No, Spent}
+use Rattle.relation_fields.specs.declared.packages.Home.{Home}
+use Rattle.relation_fields.specs.declared.packages.PackageFacts.{PackageFacts}
 use Rattle.repo_model.specs.{Goals.{one_version, CoinstGoals}, declared.goals.Goal.{Goal}}
 use Rattle.suite_compare.specs.Answering.{names_none}
-use Rattle.status_check.specs.{declared.report.HaveLine.{HaveLine}, declared.report.OwnState.{OwnState}}
+use Rattle.status_check.specs.declared.report.HaveLine.{HaveLine}
+use Rattle.status_check.specs.declared.report.OwnState.{OwnState}
 use Rattle.status_check.specs.declared.report.OwnState.TheVariants as own
 use Rattle.status_check.specs.declared.report.SuiteState.{SuiteState}
 use Rattle.status_check.specs.declared.report.SuiteState.TheVariants as suite

@@ -1,8 +1,11 @@
 -- The state of a set of packages as a function.
-use Rattle.std.specs.{Prelude.{◌≡◌, ◌↔◌, ℕ, Bool, not, ◌&&◌, find, Option, Some, None}, List.{list_all, list_any}}
-use Rattle.row_book.specs.{Flattening.{packages}, Repository.{Repository, clauses_of}, Sets.{NumSet}, Sound.{OfPackages, SoundRepository}}
+use Rattle.std.specs.Prelude.{◌≡◌, ◌↔◌, ℕ, Bool, not, ◌&&◌, find, Option, Some, None}
+use Rattle.std.specs.List.{list_all, list_any}
+use Rattle.row_book.specs.{Flattening.{packages}, Repository.{Repository, clauses_of}}
+use Rattle.row_book.specs.{Sets.{NumSet}, Sound.{OfPackages, SoundRepository}}
 use Rattle.row_book.specs.Thinning.{conflicting_pairs}
-use Rattle.status_check.specs.{Report.{IsStateOf}, declared.report.OwnState.{OwnState}, declared.report.OwnState.TheVariants.{Healthy, Unhit, Clash}}
+use Rattle.status_check.specs.{Report.{IsStateOf}, declared.report.OwnState.{OwnState}}
+use Rattle.status_check.specs.declared.report.OwnState.TheVariants.{Healthy, Unhit, Clash}
 
 -- the package is in the set, and has a clause that the set does not hit
 abbrev pub is_unserved : Repository → NumSet → ℕ → Bool

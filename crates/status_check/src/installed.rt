@@ -1,9 +1,11 @@
 //! Which stanzas of a status file are installed, and which of them are foreign.
-ghost use Rattle.std.specs.Prelude.{◌≡◌, ◌∷◌, ◌||◌, ◌<◌, ◌≤◌, ◌+◌, if◌then◌else◌, [], codes, length, map, count_by, IfOk, MatchOption};
+ghost use Rattle.std.specs.Prelude.{◌≡◌, ◌∷◌, ◌||◌, ◌<◌, ◌≤◌, ◌+◌, if◌then◌else◌, [], codes};
+ghost use Rattle.std.specs.Prelude.{length, map, count_by, IfOk, MatchOption};
 ghost use Rattle.std.specs.{List.{position, position_or_len}, Str.{bytes_eq}};
 ghost use Rattle.stanza_reader.specs.Fields.{is_edge, trimmed_start};
 ghost use Rattle.repo_model.specs.Facts.{is_all};
-ghost use Rattle.status_check.specs.Installed.{is_elsewhere, is_foreign, is_installed, is_of_home, is_own, says_installed, words};
+ghost use Rattle.status_check.specs.Installed.{is_elsewhere, is_foreign, is_installed, is_of_home};
+ghost use Rattle.status_check.specs.Installed.{is_own, says_installed, words};
 
 use listed::{is_white_byte, trim_front};
 use relation_fields::Home;

@@ -2,7 +2,8 @@
 ghost use Rattle.std.specs.Prelude.{◌≡◌, ◌≤◌, length, None, Ok, IfOk, IfErr, OnOk};
 ghost use Rattle.stanza_reader.specs.Stanzas.{stanzas};
 ghost use Rattle.repo_model.specs.{Refusals.{Refuses}, Limits.{most_bytes}};
-ghost use Rattle.status_check.specs.Own.{foreign_count, file_fault, own_home, own_packages, status_fault};
+ghost use Rattle.status_check.specs.Own.{foreign_count, file_fault, own_home, own_packages};
+ghost use Rattle.status_check.specs.Own.{status_fault};
 
 use crate::installed::sort_stanzas;
 use relation_fields::Home;

@@ -1,10 +1,13 @@
 //! An installed system against an index.
 ghost use Rattle.std.specs.Prelude.{◌≡◌, ◌≤◌, ◌↔◌, None, length, map, IfOk, IfErr, OnOk};
 ghost use Rattle.clause_solver.specs.Outcomes.{IsBudget};
-ghost use Rattle.repo_model.specs.{Refusals.{Refuses}, Repository.{suite_repository}, Stanzas.{HealthyStanzas}, Limits.{most_bytes}};
+ghost use Rattle.repo_model.specs.{Refusals.{Refuses}, Repository.{suite_repository}};
+ghost use Rattle.repo_model.specs.{Stanzas.{HealthyStanzas}, Limits.{most_bytes}};
 ghost use Rattle.suite_compare.specs.Asking.{verdict_in};
-ghost use Rattle.status_check.specs.{Own.{foreign_count, own_home, own_packages, status_fault}, declared.report.OwnState.TheVariants.{Healthy}};
-ghost use Rattle.status_check.specs.Report.{all_of, had_goals, line_for, state_of, HoldsInIndex, IsStateOf};
+ghost use Rattle.status_check.specs.Own.{foreign_count, own_home, own_packages, status_fault};
+ghost use Rattle.status_check.specs.declared.report.OwnState.TheVariants.{Healthy};
+ghost use Rattle.status_check.specs.Report.{all_of, had_goals, line_for, state_of, HoldsInIndex};
+ghost use Rattle.status_check.specs.Report.{IsStateOf};
 
 use crate::classes::{look_up, suite_state};
 use crate::own::read_own;

@@ -1,5 +1,5 @@
 -- The report of two indexes lists exactly what is broken and what is open.
-use Rattle.std.proofs.Common.{ℕ, ◌≡◌, Bool, List, [], ◌∷◌, ◌++◌, inl, inr, refl, sym, ◌∙◌, subst, filter, true, false, Option}
+use Rattle.std.proofs.Common.{ℕ, ◌≡◌, ◌⊎◌, Bool, List, [], ◌∷◌, ◌++◌, inl, inr, refl, sym, ◌∙◌, subst, filter, true, false, Option}
 use Rattle.std.specs.{Prelude.{◌↔◌}, List.{flat_map}}
 use Rattle.listed.proofs.Lists.{In_flat_cases, In_flat, In_append_cases, In_append_left, In_append_right, filter_cases, filter_from}
 use Rattle.clause_solver.specs.declared.outcomes.Verdict.TheVariants.{Yes}
@@ -10,11 +10,12 @@ use Rattle.clause_pool.proofs.Order.{order_filter}
 use Rattle.suite_compare.specs.{Names.{names_of_both}, Report.{is_yes, pair_line, single_line, with_later}, declared.report.Finding.{Finding}}
 use Rattle.suite_compare.specs.{declared.report.ReportLine.{ReportLine}, declared.report.ReportLine.TheVariants.{Broken1, Broken2, Open1, Open2}}
 use Rattle.suite_compare.specs.Indexes.{SearchedIndex, Judged}
-use Rattle.suite_compare.specs.Listing.{names_of, AreInOrder, BothHave, IsAsked, IsBroken, IsUndecided, ListsExactly, is_broken}
+use Rattle.suite_compare.specs.Listing.{names_of, AreInOrder, BothHave, IsAsked, IsBroken, IsUndecided, ListsExactly, is_broken, says_open}
 use Rattle.suite_compare.specs.ListingLaws.{OneListIsExact, ReportListsExactly}
 use Rattle.suite_compare.proofs.Judging.{broken_is, broken_told, can_is_yes, is_yes_can, open_is, open_told, told}
-use Rattle.suite_compare.proofs.Members.{later_cases, later_from, not_both, pair_broken, pair_open, pair_names, same_first, same_one, same_second, single_broken, single_open, single_names}
-use Rattle.suite_compare.proofs.{NamesOfBoth.{both_from, both_have, both_order}, Orders.{order_same, report_order}}
+use Rattle.suite_compare.proofs.Members.{later_cases, later_from, not_both, pair_broken, pair_open, pair_names, same_first, same_one, same_second}
+use Rattle.suite_compare.proofs.{Members.{single_broken, single_open, single_names}, NamesOfBoth.{both_from, both_have, both_order}}
+use Rattle.suite_compare.proofs.Orders.{order_same, report_order}
 
 -- a report as lines of names and lines of pairs
 abbrev singles : (List ℕ → Option Finding) → List (List ℕ) → List ReportLine
@@ -112,7 +113,7 @@ report_lists_exactly old new in_old in_new says_old says_new = record { broken =
     broken_lines (Open1 name) e = absurd (let no : ⊥ = cc in no)
     broken_lines (Open2 a b) e = absurd (let no : ⊥ = cc in no)
 
-    open_lines : (l : ReportLine) → is_broken l ≡ false → (In l (singles f names ++ pairs g chosen) ↔ (IsAsked Judged old new (names_of l) × IsUndecided Judged old new (names_of l)))
+    open_lines : (l : ReportLine) → says_open l ≡ true → (In l (singles f names ++ pairs g chosen) ↔ (IsAsked Judged old new (names_of l) × IsUndecided Judged old new (names_of l)))
     open_lines (Open1 name) e = (
       (λ i. let w : In name names × In (Open1 name) (single_line name (f name)) = one_cases f g names chosen chosen_order (Open1 name) name refl i in
           (both_have old new name w.0, open_is old new in_old in_new (name ∷ []) says_old says_new (single_open name name (f name) w.1))),
@@ -127,13 +128,19 @@ report_lists_exactly old new in_old in_new says_old says_new = record { broken =
     open_lines (Broken1 name) e = absurd (let no : ⊥ = cc in no)
     open_lines (Broken2 a b) e = absurd (let no : ⊥ = cc in no)
 
+-- a line says `broken` or `open`
+pub says_one : (line : ReportLine) → (is_broken line ≡ true) ⊎ (says_open line ≡ true)
+says_one (Broken1 name) = inl refl
+says_one (Broken2 first second) = inl refl
+says_one (Open1 name) = inr refl
+says_one (Open2 first second) = inr refl
+
 -- the lines of one exact list stand in each other
 carried : (old new : SearchedIndex) (lines others : List ReportLine) → ListsExactly Judged old new lines → ListsExactly Judged old new others → (line : ReportLine) → In line lines → In line others
-carried old new lines others h k line i = go (is_broken line) refl
-  where
-    go : (b : Bool) → is_broken line ≡ b → In line others
-    go true e = (k.broken line e).1 ((h.broken line e).0 i)
-    go false e = (k.undecided line e).1 ((h.undecided line e).0 i)
+carried old new lines others h k line i = elim (says_one line) [
+  | inl e ↦ (k.broken line e).1 ((h.broken line e).0 i)
+  | inr e ↦ (k.undecided line e).1 ((h.undecided line e).0 i)
+]
 
 pub one_list_is_exact : OneListIsExact
 one_list_is_exact old new lines others h k = order_same lines others h.order k.order (carried old new lines others h k) (carried old new others lines k h)

@@ -46,9 +46,9 @@ yes_at No e = absurd (false≢true e)
 yes_at Spent e = absurd (false≢true e)
 
 -- kinds whose first choices are at peace go together
-pub joined_yes : (pool : Interned) (book : Book) (budget : ℕ) (A B S T : List ℕ) → Sound pool book → NeedsFit (length book.rows) (A ∷ (B ∷ [])) → IsFirstChoice (repository_of pool book) (A ∷ []) (has S)
+pub paired_yes : (pool : Interned) (book : Book) (budget : ℕ) (A B S T : List ℕ) → Sound pool book → NeedsFit (length book.rows) (A ∷ (B ∷ [])) → IsFirstChoice (repository_of pool book) (A ∷ []) (has S)
     → IsFirstChoice (repository_of pool book) (B ∷ []) (has T) → ArePeaceful book.conflicts S T → together (repository_of pool book) budget A B ≡ Yes
-joined_yes pool book budget A B S T sound fit first second peace =
+paired_yes pool book budget A B S T sound fit first second peace =
     let R : Repository = repository_of pool book in
     let joined = choices_join R (A ∷ []) (B ∷ []) (has S) (has T) (λ m n h. sound.conflicts.either_way m n h) first second (λ m n i j. peace m n (has_In S m i) (has_In T n j)) in
     let tells = choice_tells R (A ∷ (B ∷ [])) _ joined (tree_of R (A ∷ (B ∷ []))) (tree_is pool book (A ∷ (B ∷ [])) sound fit) in
@@ -63,7 +63,7 @@ single_yes judge singles k v r b l told at is t = ap is_yes (sym (at ∙ single_
 
 -- the bad kinds of a kind that goes by itself
 pub bad_from : (judge : Judge) (singles : List Verdict) (choices : Choices) (kind : ℕ) (suspects : List ℕ) (list : List Bad) → kind < length judge.kinds.items → AreSingles judge singles
-    → AreChoices (kernel_in judge) judge.kinds.items choices → AreSuspects judge.kernel.book.now.conflicts choices.of.items kind suspects → list ≡ flat_map (bad_entry judge singles kind) suspects → AreBad judge kind list
+    → AreChoices (kernel_in judge) judge.kinds.items choices → AreSuspects judge.kernel.book.now.conflicts choices.firsts.items kind suspects → list ≡ flat_map (bad_entry judge singles kind) suspects → AreBad judge kind list
 bad_from judge singles choices kind suspects list l told chosen suspected made = record {
   within = λ b i. let w = was b i in subst (λ z. z < length judge.kinds.items) (sym (ap (λ z. z.kind) (entry b i).1)) (below w.0 w.1);
   single = λ b i. let w = was b i in
@@ -79,7 +79,7 @@ bad_from judge singles choices kind suspects list l told chosen suspected made =
         refl,
       )
     ]
-    | inr j ↦ inr (joined_yes judge.kernel.pool.now judge.kernel.book.now judge.budget (listed_for judge.kinds.items kind) (listed_for judge.kinds.items k) (listed_for choices.of.items kind) (listed_for choices.of.items k) judge.kernel.sound
+    | inr j ↦ inr (paired_yes judge.kernel.pool.now judge.kernel.book.now judge.budget (listed_for judge.kinds.items kind) (listed_for judge.kinds.items k) (listed_for choices.firsts.items kind) (listed_for choices.firsts.items k) judge.kernel.sound
         (pair_fits (length judge.kernel.book.now.rows) judge.kinds.items kind k l m judge.fit) (chosen.chosen.each kind l j.first.0 j.first.1) (chosen.chosen.each k m j.second.0 j.second.1) j.peace)
   ];
 }

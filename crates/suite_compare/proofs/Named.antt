@@ -23,7 +23,7 @@ own_names packages name i =
 
 -- a side of the classes of names has the verdicts on them
 pub verdicts_are : (limit : ℕ) (hold : Bool) (home : Home) (stanzas : List PackageFacts) (budget : ℕ) (K : Repository) (names lists : List (List ℕ)) (side : Side) → K ≡ kernel limit hold (suite_repository home stanzas)
-    → lists ≡ map (λ name. image_of limit hold home stanzas (any_version name)) names → IsSideBy K budget lists side → AreVerdicts side side.of.items names (named_verdict limit hold home stanzas budget)
+    → lists ≡ map (λ name. image_of limit hold home stanzas (any_version name)) names → IsSideBy K budget lists side → AreVerdicts side side.kind_of.items names (named_verdict limit hold home stanzas budget)
 verdicts_are limit hold home stanzas budget K names lists side same made so = record {
   single = λ i l. ap (λ z. verdict_of budget (tree_of R (z ∷ []))) (sym (at i l)) ∙ moved (classes i ∷ []);
   pair = λ i j l m. ap₂ (λ y z. verdict_of budget (tree_of R (y ∷ (z ∷ [])))) (sym (at i l)) (sym (at j m)) ∙ moved (classes i ∷ (classes j ∷ []));
@@ -33,7 +33,7 @@ verdicts_are limit hold home stanzas budget K names lists side same made so = re
     R = kernel limit hold (suite_repository home stanzas)
 
     classes : ℕ → List ℕ
-    classes i = listed_for side.judge.kinds.items (get_or side.of.items i 0)
+    classes i = listed_for side.judge.kinds.items (get_or side.kind_of.items i 0)
 
     at : (i : ℕ) → i < length names → classes i ≡ image_of limit hold home stanzas (any_version (listed_for names i))
     at i l =
@@ -48,14 +48,14 @@ abbrev pub AreAmong : List (List ℕ) → List ℕ → List (List ℕ) → List 
 AreAmong names of made kinds = (j : ℕ) → j < length made → (i : ℕ) × (i < length names) × (listed_for made j ≡ listed_for names i) × (get_or kinds j 0 ≡ get_or of i 0)
 
 -- and so a kind of the side
-pub part_within : (names made : List (List ℕ)) (kinds : List ℕ) (side : Side) → AreAmong names side.of.items made kinds → length side.of.items ≡ length names → (j : ℕ) → j < length made → get_or kinds j 0 < length side.judge.kinds.items
+pub part_within : (names made : List (List ℕ)) (kinds : List ℕ) (side : Side) → AreAmong names side.kind_of.items made kinds → length side.kind_of.items ≡ length names → (j : ℕ) → j < length made → get_or kinds j 0 < length side.judge.kinds.items
 part_within names made kinds side each long j l = let w = each j l in subst (λ z. z < length side.judge.kinds.items) (sym w.3) (side.within w.0 (subst (λ n. w.0 < n) (sym long) w.1))
 
 -- both sides are sides of the names of both
-pub both_old : (made : NewSide) → IsSide (length made.part.names.items) made.old.now made.part.of.items
+pub both_old : (made : NewSide) → IsSide (length made.common.names.items) made.old.now made.common.kind_of.items
 both_old made = record { long = made.old_long; within = made.old_within; told = made.old.now.told }
 
-pub both_new : (made : NewSide) → IsSide (length made.part.names.items) made.side made.side.of.items
+pub both_new : (made : NewSide) → IsSide (length made.common.names.items) made.side made.side.kind_of.items
 both_new made = record { long = made.long; within = λ i l. made.side.within i (subst (λ n. i < n) (sym made.long) l); told = made.side.told }
 
 pub part_verdicts : (names made : List (List ℕ)) (of kinds : List ℕ) (side : Side) (v : List (List ℕ) → Verdict) → AreAmong names of made kinds → AreVerdicts side of names v → AreVerdicts side kinds made v

@@ -3,7 +3,7 @@ use Rattle.std.{proofs.Common.{◌≡◌, ℕ, ◌<◌, ◌+◌, List, [], ◌�
 use Rattle.listed.{specs.Lists.{In}, proofs.Lists.{In_at, In_map_cases, In_none}}
 use Rattle.row_book.specs.Book.{listed_for}
 use Rattle.class_merge.proofs.Places.{place_some}
-use Rattle.suite_compare.{specs.Kinds.{joint_key, AreJoined, AreKinds, AreNumbered}, proofs.Groups.{each_more, each_none, each_weaker, In_last}}
+use Rattle.suite_compare.{specs.Kinds.{kind_pair_key, ArePaired, AreKinds, AreNumbered}, proofs.Groups.{each_more, each_none, each_weaker, In_last}}
 
 pub numbered_none : (key : ℕ → List ℕ) (seen : List (List ℕ)) (firsts of : List ℕ) → seen ≡ [] → firsts ≡ [] → of ≡ [] → AreNumbered key 0 seen firsts of
 numbered_none key seen firsts of s f o = record { are = s ∙ sym (ap (map key) f); below = λ i j. absurd (In_none (subst (λ z. In i z) f j)); each = each_none _ 0 of o }
@@ -59,9 +59,9 @@ module _ (side taken firsts : List ℕ) (is : taken ≡ map (λ i. get_or side i
   taken_only : ((i : ℕ) → In i firsts → i < length side) → (k : ℕ) → In k taken → In k side
   taken_only below k j = let w = In_map_cases (λ i. get_or side i 0) firsts k (subst (λ z. In k z) is j) in subst (λ z. In z side) (sym w.2) (In_at side w.0 0 (below w.0 w.1))
 
-pub joined_from : (old_of new_of olds news : List ℕ) (seen : List (List ℕ)) (firsts of : List ℕ) → length old_of ≡ length new_of → olds ≡ map (λ i. get_or old_of i 0) firsts → news ≡ map (λ i. get_or new_of i 0) firsts
-    → AreNumbered (joint_key old_of new_of) (length old_of) seen firsts of → AreJoined old_of new_of olds news of
-joined_from old_of new_of olds news seen firsts of same os ns so = record {
+pub paired_from : (old_of new_of olds news : List ℕ) (seen : List (List ℕ)) (firsts of : List ℕ) → length old_of ≡ length new_of → olds ≡ map (λ i. get_or old_of i 0) firsts → news ≡ map (λ i. get_or new_of i 0) firsts
+    → AreNumbered (kind_pair_key old_of new_of) (length old_of) seen firsts of → ArePaired old_of new_of olds news of
+paired_from old_of new_of olds news seen firsts of same os ns so = record {
   long = so.each.long ∙ same;
   same = taken_long old_of olds firsts os ∙ sym (taken_long new_of news firsts ns);
   within = λ i l. subst (λ z. get_or of i 0 < z) (sym (taken_long new_of news firsts ns)) (at i l).0;
@@ -71,5 +71,5 @@ joined_from old_of new_of olds news seen firsts of same os ns so = record {
   only_new = taken_only new_of news firsts ns (λ i j. subst (λ z. i < z) same (so.below i j));
 }
   where
-    at : (i : ℕ) → i < length new_of → (get_or of i 0 < length firsts) × (joint_key old_of new_of (get_or firsts (get_or of i 0) 0) ≡ joint_key old_of new_of i)
+    at : (i : ℕ) → i < length new_of → (get_or of i 0 < length firsts) × (kind_pair_key old_of new_of (get_or firsts (get_or of i 0) 0) ≡ kind_pair_key old_of new_of i)
     at i l = so.each.each i (subst (λ z. i < z) (sym same) l)

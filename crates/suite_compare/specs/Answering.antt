@@ -1,16 +1,22 @@
 -- The answer on goals: what their search tree gives, with the certificate of a yes or a no, at a
 -- clause limit, with hold or without.
-use Rattle.std.specs.{Prelude.{◌≡◌, ⊤, ℕ, ◌+◌, ◌<◌, ◌≤◌, Bool, ◌==◌, if◌then◌else◌, List, [], ◌∷◌, filter, length, Option, Some, None}, List.{range_with_len}}
+use Rattle.std.specs.Prelude.{◌≡◌, ⊤, ℕ, ◌+◌, ◌<◌, ◌≤◌, Bool, ◌==◌, if◌then◌else◌, List, [], ◌∷◌}
+use Rattle.std.specs.{Prelude.{filter, length, Option, Some, None}, List.{range_with_len}}
 use Rattle.row_book.specs.{Flags.{flag}, Rounds.{kernel}, Sets.{NumSet}}
 use Rattle.listed.specs.Lists.{In, has}
-use Rattle.relation_fields.specs.{declared.packages.Home.{Home}, declared.packages.PackageFacts.{PackageFacts}}
-use Rattle.repo_model.specs.{Goals.{packages_named, CoinstGoals, HasOneFor}, Repository.{suite_repository}, Stanzas.{HealthyStanzas}}
+use Rattle.relation_fields.specs.declared.packages.Home.{Home}
+use Rattle.relation_fields.specs.declared.packages.PackageFacts.{PackageFacts}
+use Rattle.repo_model.specs.Goals.{packages_named, CoinstGoals, HasOneFor}
+use Rattle.repo_model.specs.{Repository.{suite_repository}, Stanzas.{HealthyStanzas}}
 use Rattle.repo_model.specs.declared.goals.Goal.{Goal}
-use Rattle.search_terms.specs.{Closure.{InRange}, Derives.{Derives}, Form.{form}, Tree.{failed_leaves, found_of, log_of}}
+use Rattle.search_terms.specs.{Closure.{InRange}, Derives.{Derives}, Form.{form}}
+use Rattle.search_terms.specs.Tree.{failed_leaves, found_of, log_of}
 use Rattle.clause_solver.specs.declared.outcomes.Verdict.{Verdict}
 use Rattle.clause_solver.specs.declared.outcomes.Verdict.TheVariants as verdict
-use Rattle.suite_compare.specs.{Asking.{asked_tree, images_of, installation}, declared.answers.Answer.{Answer}}
-use Rattle.suite_compare.specs.{declared.answers.Answer.TheVariants.{Yes, No, Spent}, declared.answers.DecideError.{DecideError}}
+use Rattle.suite_compare.specs.Asking.{asked_tree, images_of, installation}
+use Rattle.suite_compare.specs.declared.answers.Answer.{Answer}
+use Rattle.suite_compare.specs.declared.answers.Answer.TheVariants.{Yes, No, Spent}
+use Rattle.suite_compare.specs.declared.answers.DecideError.{DecideError}
 use Rattle.suite_compare.specs.declared.answers.DecideError.TheVariants.{Unknown, Memory}
 
 -- the goal names no package

@@ -1,12 +1,18 @@
 -- What is asked of a suite by goals, and what its kernel at a clause limit, with hold or without,
 -- answers.
-use Rattle.std.specs.Prelude.{ℕ, ◌<◌, ◌≤◌, Bool, nat_lt, if◌then◌else◌, List, map, filter, length, is_some}
-use Rattle.row_book.specs.{Flags.{flag}, Flattening.{packages}, Repository.{Repository}, Rounds.{kernel, kernel_image, kernel_steps}}
+use Rattle.std.specs.Prelude.{ℕ, ◌<◌, ◌≤◌, Bool, nat_lt, if◌then◌else◌, List, map, filter, length}
+use Rattle.std.specs.Prelude.{is_some}
+use Rattle.row_book.specs.{Flags.{flag}, Flattening.{packages}, Repository.{Repository}}
+use Rattle.row_book.specs.Rounds.{kernel, kernel_image, kernel_steps}
 use Rattle.listed.specs.Lists.{has}
-use Rattle.relation_fields.specs.{declared.packages.Home.{Home}, declared.packages.PackageFacts.{PackageFacts}}
-use Rattle.repo_model.specs.{Goals.{packages_named, CoinstGoals}, Repository.{packages_of, suite_repository}, declared.goals.Goal.{Goal}}
-use Rattle.search_terms.specs.{Form.{form}, SearchTree.{search_tree}, Tree.{Tree, failed_leaves, found_of}}
-use Rattle.clause_solver.specs.{declared.outcomes.Verdict.{Verdict}, declared.outcomes.Verdict.TheVariants.{Yes, No, Spent}}
+use Rattle.relation_fields.specs.declared.packages.Home.{Home}
+use Rattle.relation_fields.specs.declared.packages.PackageFacts.{PackageFacts}
+use Rattle.repo_model.specs.Goals.{packages_named, CoinstGoals}
+use Rattle.repo_model.specs.{Repository.{packages_of, suite_repository}, declared.goals.Goal.{Goal}}
+use Rattle.search_terms.specs.{Form.{form}, SearchTree.{search_tree}}
+use Rattle.search_terms.specs.Tree.{Tree, failed_leaves, found_of}
+use Rattle.clause_solver.specs.declared.outcomes.Verdict.{Verdict}
+use Rattle.clause_solver.specs.declared.outcomes.Verdict.TheVariants.{Yes, No, Spent}
 use Rattle.install_lift.specs.{Lifting.{lift_of}, Trimming.{trim_of}}
 
 -- the classes of some packages, ascending

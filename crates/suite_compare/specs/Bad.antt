@@ -1,9 +1,13 @@
--- Kinds that do not go together, or are not known to.
-use Rattle.std.specs.{Prelude.{◌≡◌, ℕ, ◌<◌, ◌==◌, ◌⊎◌, Bool, true, not, ◌&&◌, if◌then◌else◌, List, [], ◌∷◌, length, map, slice_index_or}, List.{find}}
+-- Which kinds are bad with a kind: those that go by themselves, if the verdict on the two together
+-- is not yes.
+use Rattle.std.specs.Prelude.{◌≡◌, ℕ, ◌<◌, ◌==◌, ◌⊎◌, Bool, true, not, ◌&&◌, if◌then◌else◌, List}
+use Rattle.std.specs.{Prelude.{[], ◌∷◌, length, map, slice_index_or}, List.{find}}
 use Rattle.std.specs.Option.{option_map_or}
 use Rattle.listed.specs.Lists.{In}
-use Rattle.clause_solver.specs.{declared.outcomes.Verdict.{Verdict}, declared.outcomes.Verdict.TheVariants.{Yes, Spent}}
-use Rattle.suite_compare.specs.{declared.verdicts.Bad.{Bad}, declared.judge.Judge.{Judge}, Groups.{AreEach}, Report.{is_yes}}
+use Rattle.clause_solver.specs.declared.outcomes.Verdict.{Verdict}
+use Rattle.clause_solver.specs.declared.outcomes.Verdict.TheVariants.{Yes, Spent}
+use Rattle.suite_compare.specs.{declared.verdicts.Bad.{Bad}, declared.judge.Judge.{Judge}}
+use Rattle.suite_compare.specs.{Groups.{AreEach}, Report.{is_yes}}
 use Rattle.suite_compare.specs.Kinds.{alone, alone_in, kernel_in, together_in}
 
 -- the verdict on each kind by itself

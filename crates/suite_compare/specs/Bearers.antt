@@ -1,8 +1,11 @@
 -- The packages that bear names, and their classes by the table of a kernel.
-use Rattle.std.specs.Prelude.{ℕ, ◌<◌, ◌==◌, ◌↔◌, Bool, not, List, length, map, filter, slice_index_or}
+use Rattle.std.specs.Prelude.{ℕ, ◌<◌, ◌==◌, ◌↔◌, Bool, not, List, length, map, filter}
+use Rattle.std.specs.Prelude.{slice_index_or}
 use Rattle.listed.specs.Lists.{Ascending, In}
-use Rattle.row_book.specs.{Book.{listed_for}, Numbers.{numbers}, declared.lent_book.LentBook.{LentBook}}
-use Rattle.relation_fields.specs.{declared.packages.Home.{Home}, declared.packages.PackageFacts.{PackageFacts}}
+use Rattle.row_book.specs.{Book.{listed_for}, Numbers.{numbers}}
+use Rattle.row_book.specs.declared.lent_book.LentBook.{LentBook}
+use Rattle.relation_fields.specs.declared.packages.Home.{Home}
+use Rattle.relation_fields.specs.declared.packages.PackageFacts.{PackageFacts}
 use Rattle.repo_model.specs.Goals.{any_version, packages_named}
 use Rattle.suite_compare.specs.Asking.{image_of}
 

@@ -1,6 +1,7 @@
 -- for the bodies of this crate alone
 -- First choices as lists of classes, and which of them are at peace.
-use Rattle.std.specs.Prelude.{◌≡◌, ℕ, ◌<◌, Bool, true, false, if◌then◌else◌, List, [], ◌∷◌, ◌++◌, slice_index_or}
+use Rattle.std.specs.Prelude.{◌≡◌, ℕ, ◌<◌, Bool, true, false, if◌then◌else◌, List, [], ◌∷◌, ◌++◌}
+use Rattle.std.specs.Prelude.{slice_index_or}
 use Rattle.listed.specs.Lists.{In, has}
 use Rattle.row_book.specs.{Book.{listed_for}, Repository.{Repository, against, clauses_of}}
 use Rattle.suite_compare.specs.FirstChoices.{first_member, is_one_of, IsFirstChoice}

@@ -2,7 +2,8 @@
 -- First choices: sets of classes that show, without a search, that a search finds something and
 -- fails nowhere. No two of their classes conflict. A first choice has the first member of each goal
 -- and of each clause of a member.
-use Rattle.std.specs.Prelude.{◌≡◌, ℕ, ◌<◌, Bool, true, false, List, length, slice_get, Option, Some, None}
+use Rattle.std.specs.Prelude.{◌≡◌, ℕ, ◌<◌, Bool, true, false, List, length, slice_get, Option, Some}
+use Rattle.std.specs.Prelude.{None}
 use Rattle.row_book.specs.{Sets.{NumSet, Is}, Repository.{Repository, clauses_of, against}}
 use Rattle.listed.specs.Lists.{In}
 

@@ -1,8 +1,10 @@
--- Kinds: names of a kind have the same classes, and so the same verdicts.
+-- A kind is a list of classes. Names whose packages are of the same classes are of one kind, and
+-- have the same verdicts.
 use Rattle.std.specs.Prelude.{◌≡◌, ℕ, ◌<◌, true, List, [], ◌∷◌, length, map, slice_index_or}
 use Rattle.listed.specs.Lists.{In, has}
 use Rattle.row_book.specs.{Book.{listed_for}, Lent.{repository_in}, Repository.{Repository}}
-use Rattle.suite_compare.specs.{Asking.{tree_of, verdict_of}, Groups.{AreEach}, declared.judge.Judge.{Judge}}
+use Rattle.suite_compare.specs.{Asking.{tree_of, verdict_of}, Groups.{AreEach}}
+use Rattle.suite_compare.specs.declared.judge.Judge.{Judge}
 use Rattle.clause_solver.specs.declared.outcomes.Verdict.{Verdict}
 
 -- the verdict of a search in a kernel, for goals as lists of classes
@@ -44,20 +46,20 @@ pub record AreKinds (lists kinds : List (List ℕ)) (kind_of : List ℕ) : Type 
   pub only : (c : List ℕ) → In c kinds → In c lists
 
 -- for each name the number of the pair of its kinds, and no other pairs
-pub record AreJoined (old_of new_of olds news joint_of : List ℕ) : Type 0 where
-  pub long : length joint_of ≡ length new_of
+pub record ArePaired (old_of new_of olds news kind_pair_of : List ℕ) : Type 0 where
+  pub long : length kind_pair_of ≡ length new_of
   pub same : length olds ≡ length news
-  pub within : (i : ℕ) → i < length new_of → slice_index_or joint_of i 0 < length news
+  pub within : (i : ℕ) → i < length new_of → slice_index_or kind_pair_of i 0 < length news
   pub each_old : (i : ℕ) → i < length new_of →
-      slice_index_or olds (slice_index_or joint_of i 0) 0 ≡ slice_index_or old_of i 0
+      slice_index_or olds (slice_index_or kind_pair_of i 0) 0 ≡ slice_index_or old_of i 0
   pub each_new : (i : ℕ) → i < length new_of →
-      slice_index_or news (slice_index_or joint_of i 0) 0 ≡ slice_index_or new_of i 0
+      slice_index_or news (slice_index_or kind_pair_of i 0) 0 ≡ slice_index_or new_of i 0
   pub only_old : (k : ℕ) → In k olds → In k old_of
   pub only_new : (k : ℕ) → In k news → In k new_of
 
 -- the pair of the kinds of a name
-abbrev pub joint_key : List ℕ → List ℕ → ℕ → List ℕ
-joint_key old_of new_of i = slice_index_or old_of i 0 ∷ (slice_index_or new_of i 0 ∷ [])
+abbrev pub kind_pair_key : List ℕ → List ℕ → ℕ → List ℕ
+kind_pair_key old_of new_of i = slice_index_or old_of i 0 ∷ (slice_index_or new_of i 0 ∷ [])
 
 -- the kernel that a judge is asked of
 abbrev pub kernel_in : Judge → Repository

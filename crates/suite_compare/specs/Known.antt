@@ -1,7 +1,9 @@
 -- Judged pairs of kinds, and the searches that they decide.
 use Rattle.std.specs.Prelude.{◌≡◌}
 use Rattle.row_book.specs.Book.{Sound, repository_of}
-use Rattle.suite_compare.specs.{Bad.{AreAllBad}, Kinds.{kernel_in}, declared.known.KnownPairs.{KnownPairs}, declared.judge.Judge.{Judge}}
+use Rattle.suite_compare.specs.{Bad.{AreAllBad}, Kinds.{kernel_in}}
+use Rattle.suite_compare.specs.declared.known.KnownPairs.{KnownPairs}
+use Rattle.suite_compare.specs.declared.judge.Judge.{Judge}
 
 -- the judge is asked of the same kernel and of the same kinds in the same order, within the same
 -- budget

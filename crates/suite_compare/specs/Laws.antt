@@ -1,11 +1,14 @@
 -- What the kernel of an index decides for goals, at every clause limit, with hold and without.
 use Rattle.std.specs.Prelude.{◌≡◌, ◌↔◌, ℕ, Bool, List, Some}
 use Rattle.row_book.specs.{Repository.{Healthy}, Rounds.{kernel}, Sets.{NumSet, HitsAll}}
-use Rattle.relation_fields.specs.{declared.packages.Home.{Home}, declared.packages.PackageFacts.{PackageFacts}}
-use Rattle.repo_model.specs.{Goals.{CoinstGoals}, Repository.{suite_repository}, declared.goals.Goal.{Goal}}
+use Rattle.relation_fields.specs.declared.packages.Home.{Home}
+use Rattle.relation_fields.specs.declared.packages.PackageFacts.{PackageFacts}
+use Rattle.repo_model.specs.{Goals.{CoinstGoals}, Repository.{suite_repository}}
+use Rattle.repo_model.specs.declared.goals.Goal.{Goal}
 use Rattle.listed.specs.Lists.{Ascending, has}
 use Rattle.search_terms.specs.Tree.{found_of}
-use Rattle.suite_compare.specs.{Asking.{HasVerdict, asked_tree, images_of, installation, verdict_in}, Answering.{verdict_told, IsAnswerOf, Serves}}
+use Rattle.suite_compare.specs.Asking.{HasVerdict, asked_tree, images_of, installation, verdict_in}
+use Rattle.suite_compare.specs.Answering.{verdict_told, IsAnswerOf, Serves}
 use Rattle.suite_compare.specs.declared.answers.Answer.{Answer}
 
 -- some healthy set of classes has a class of each goal

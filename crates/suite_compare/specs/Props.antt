@@ -1,9 +1,11 @@
--- Equations of verdicts, numbers and texts, and what is said by them, have one proof at most, so
--- that a struct may keep it.
+-- Equations of verdicts, numbers and texts have one proof at most, and so have facts made of such
+-- equations. So a struct may keep them as ghost fields.
 use Rattle.std.specs.Prelude.{ℕ, Bool, true, false, if◌then◌else◌, List, map, refl}
 use Rattle.std.specs.Coded.{Coded, Coded-set, code_by, coded×, coded_bool, coded_list, coded_ℕ}
-use Rattle.clause_solver.specs.{declared.outcomes.Verdict.{Verdict}, declared.outcomes.Verdict.TheVariants.{Yes, No, Spent}}
-use Rattle.suite_compare.specs.{Bad.{AreSingles}, Kinds.{alone, kernel_in}, declared.judge.Judge.{Judge}}
+use Rattle.clause_solver.specs.declared.outcomes.Verdict.{Verdict}
+use Rattle.clause_solver.specs.declared.outcomes.Verdict.TheVariants.{Yes, No, Spent}
+use Rattle.suite_compare.specs.{Bad.{AreSingles}, Kinds.{alone, kernel_in}}
+use Rattle.suite_compare.specs.declared.judge.Judge.{Judge}
 
 pub number-set : IsSet ℕ
 number-set = Coded-set coded_ℕ

@@ -1,9 +1,12 @@
 -- When no view is made of a suite.
 use Rattle.std.specs.Prelude.{◌≡◌, ⊤, ℕ, Bool, List, map, Some, None}
 use Rattle.row_book.specs.Rounds.{PassedRound, limit_at}
-use Rattle.relation_fields.specs.{declared.packages.Home.{Home}, declared.packages.PackageFacts.{PackageFacts}}
-use Rattle.repo_model.specs.{Facts.{facts_of}, FirstFault.{first_fault, home_of, stanzas_of}, Repository.{suite_repository}, Stanzas.{stanza_at}}
-use Rattle.suite_compare.specs.{declared.refusals.LimitError.{LimitError}, declared.refusals.LimitError.TheVariants.{Limit, Memory}}
+use Rattle.relation_fields.specs.declared.packages.Home.{Home}
+use Rattle.relation_fields.specs.declared.packages.PackageFacts.{PackageFacts}
+use Rattle.repo_model.specs.{Facts.{facts_of}, FirstFault.{first_fault, home_of, stanzas_of}}
+use Rattle.repo_model.specs.{Repository.{suite_repository}, Stanzas.{stanza_at}}
+use Rattle.suite_compare.specs.declared.refusals.LimitError.{LimitError}
+use Rattle.suite_compare.specs.declared.refusals.LimitError.TheVariants.{Limit, Memory}
 use Rattle.suite_compare.specs.declared.refusals.ViewError.{ViewError}
 use Rattle.suite_compare.specs.declared.refusals.ViewError.TheVariants as view
 

@@ -1,9 +1,14 @@
 -- What a comparison of two suites says, by the verdicts on their names and pairs of names.
-use Rattle.std.specs.{Prelude.{ℕ, Bool, true, false, List, [], ◌∷◌, ◌++◌, filter, Option, Some, None}, List.{flat_map}}
-use Rattle.clause_solver.specs.{declared.outcomes.Verdict.{Verdict}, declared.outcomes.Verdict.TheVariants.{Yes, No, Spent}}
+use Rattle.std.specs.Prelude.{ℕ, Bool, true, false, List, [], ◌∷◌, ◌++◌, filter, Option, Some, None}
+use Rattle.std.specs.List.{flat_map}
+use Rattle.clause_solver.specs.declared.outcomes.Verdict.{Verdict}
+use Rattle.clause_solver.specs.declared.outcomes.Verdict.TheVariants.{Yes, No, Spent}
 use Rattle.repo_model.specs.{Goals.{any_version}, declared.goals.Goal.{Goal}}
-use Rattle.suite_compare.specs.{declared.report.Finding.{Finding}, declared.report.Finding.TheVariants.{Broken, Open}, declared.report.ReportLine.{ReportLine}}
-use Rattle.suite_compare.specs.declared.report.ReportLine.TheVariants.{Broken1, Broken2, Open1, Open2}
+use Rattle.suite_compare.specs.declared.report.Finding.{Finding}
+use Rattle.suite_compare.specs.declared.report.Finding.TheVariants.{Broken, Open}
+use Rattle.suite_compare.specs.declared.report.ReportLine.{ReportLine}
+use Rattle.suite_compare.specs.declared.report.ReportLine.TheVariants.{Broken1, Broken2, Open1}
+use Rattle.suite_compare.specs.declared.report.ReportLine.TheVariants.{Open2}
 
 -- By the verdict in the old and then in the new suite. Broken: it was yes and is no. Open: the new
 -- search spent its budget, or the new one refutes and the old one spent its budget.

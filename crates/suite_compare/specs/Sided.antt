@@ -1,10 +1,12 @@
--- What a side says of names.
+-- What one side of a comparison says of names: verdicts on them and on pairs of them.
 use Rattle.std.specs.Prelude.{◌≡◌, ℕ, ◌<◌, Bool, List, [], ◌∷◌, length, map, slice_index_or}
 use Rattle.row_book.specs.Book.{listed_for}
 use Rattle.clause_solver.specs.declared.outcomes.Verdict.{Verdict}
-use Rattle.relation_fields.specs.{declared.packages.Home.{Home}, declared.packages.PackageFacts.{PackageFacts}}
+use Rattle.relation_fields.specs.declared.packages.Home.{Home}
+use Rattle.relation_fields.specs.declared.packages.PackageFacts.{PackageFacts}
 use Rattle.repo_model.specs.Goals.{any_version}
-use Rattle.suite_compare.specs.{Asking.{verdict_in}, Kinds.{alone_in, together_in}, Props.{verdict-set}, declared.side.Side.{Side}}
+use Rattle.suite_compare.specs.{Asking.{verdict_in}, Kinds.{alone_in, together_in}}
+use Rattle.suite_compare.specs.{Props.{verdict-set}, declared.side.Side.{Side}}
 
 -- the verdicts on names and on pairs of names are those of their kinds
 pub record AreVerdicts (side : Side) (of : List ℕ) (names : List (List ℕ))

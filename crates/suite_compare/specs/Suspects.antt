@@ -1,9 +1,11 @@
 -- for the bodies of this crate alone
--- Which kinds may not go together.
-use Rattle.std.specs.{Prelude.{◌≡◌, ℕ, ◌<◌, ◌==◌, ◌⊎◌, List, [], filter, length}, List.{flat_map, range_with_len}}
+-- Which kinds may fail to go together.
+use Rattle.std.specs.Prelude.{◌≡◌, ℕ, ◌<◌, ◌==◌, ◌⊎◌, List, [], filter, length}
+use Rattle.std.specs.List.{flat_map, range_with_len}
 use Rattle.listed.specs.Lists.{In}
 use Rattle.row_book.specs.{Book.{listed_for}, Repository.{Repository}}
-use Rattle.suite_compare.specs.{Choices.{ArePeaceful, IsChosen}, Groups.{AreEach}, declared.suspect.Choices.{Choices}}
+use Rattle.suite_compare.specs.{Choices.{ArePeaceful, IsChosen}, Groups.{AreEach}}
+use Rattle.suite_compare.specs.declared.suspect.Choices.{Choices}
 
 -- a first choice for each of the first n kinds; empty if it has none
 abbrev pub AreAllChosen : Repository → List (List ℕ) → ℕ → List (List ℕ) → Type 0
@@ -27,10 +29,11 @@ without_choice choices n = filter (λ k. length (listed_for choices k) == 0) (ra
 
 -- the first choices of the kinds of a repository, with their tables
 pub record AreChoices (R : Repository) (kinds : List (List ℕ)) (choices : Choices) : Type 0 where
-  pub chosen : AreAllChosen R kinds (length kinds) choices.of.items
-  pub holders : AreHolders (length choices.of.items) choices.of.items choices.holders.items
+  pub chosen : AreAllChosen R kinds (length kinds) choices.firsts.items
+  pub holders : AreHolders (length choices.firsts.items) choices.firsts.items choices.holders.items
   pub size : length choices.holders.items ≡ length R.clauses
-  pub without : choices.without.items ≡ without_choice choices.of.items (length choices.of.items)
+  pub without : choices.without.items
+      ≡ without_choice choices.firsts.items (length choices.firsts.items)
 
 -- both have members, and no member of the one conflicts with one of the other
 pub record AreJoinable (conflicts : List (List ℕ)) (S T : List ℕ) : Type 0 where

@@ -1,9 +1,12 @@
 -- for the bodies of this crate alone
 -- The lines of names by their places.
-use Rattle.std.specs.{Prelude.{ℕ, if◌then◌else◌, List, [], Some, filter, ltb, slice_index_or}, List.{flat_map}}
+use Rattle.std.specs.Prelude.{ℕ, if◌then◌else◌, List, [], Some, filter, ltb, slice_index_or}
+use Rattle.std.specs.List.{flat_map}
 use Rattle.listed.specs.Lists.{has}
 use Rattle.row_book.specs.Book.{listed_for}
-use Rattle.suite_compare.specs.{declared.gather.Partners.{Partners}, declared.report.Finding.{Finding}, declared.report.Finding.TheVariants.{Broken, Open}}
+use Rattle.suite_compare.specs.declared.gather.Partners.{Partners}
+use Rattle.suite_compare.specs.declared.report.Finding.{Finding}
+use Rattle.suite_compare.specs.declared.report.Finding.TheVariants.{Broken, Open}
 use Rattle.suite_compare.specs.{declared.report.ReportLine.{ReportLine}, Report.{pair_line}}
 
 -- the finding on a partner
@@ -24,6 +27,6 @@ partners_at table a = slice_index_or table a no_partners
 
 -- the lines of a name with its partners that come later
 abbrev pub told_after : List (List ℕ) → List ℕ → List Partners → ℕ → List ReportLine
-told_after names joint_of table i =
-    let partners = partners_at table (slice_index_or joint_of i 0) in
+told_after names kind_pair_of table i =
+    let partners = partners_at table (slice_index_or kind_pair_of i 0) in
     flat_map (told_pair names partners i) (filter (ltb i) partners.told)

@@ -1,15 +1,22 @@
 -- A view of a suite: the repository of its packages as a book over a pool, and the kernel of that
 -- at a clause limit, with hold or without. The kernel has its classes, its held classes and its
 -- steps.
-use Rattle.std.specs.{Prelude.{◌≡◌, ◌⊎◌, ℕ, Bool, List, [], ◌∷◌, map, refl}, Coded.{Coded, Coded-set, code_by, coded×, coded⊎, coded_list, coded_ℕ, Unit-prop}}
+use Rattle.std.specs.Prelude.{◌≡◌, ◌⊎◌, ℕ, Bool, List, [], ◌∷◌, map, refl}
+use Rattle.std.specs.Coded.{Coded, Coded-set, code_by, coded×, coded⊎, coded_list, coded_ℕ}
+use Rattle.std.specs.Coded.{Unit-prop}
 use Rattle.std.proofs.Common.{inl, inr}
 use Rattle.clause_pool.specs.Interned.{Interned}
-use Rattle.row_book.specs.{Book.{repository_of, Sound}, Flattening.{packages}, Props.{repository_code, Same-prop, Sound-prop}, Pruning.{IdleClause}}
-use Rattle.row_book.specs.{Repository.{Repository}, Rounds.{RoundStep, FlatStep, MergeStep, IdleStep, kernel, kernel_class, kernel_held, kernel_steps}}
-use Rattle.row_book.specs.{Trail.{SoundStep, SoundSteps, trail_meaning}, declared.book.Book.{Book}, declared.trail.Step.{Step}}
+use Rattle.row_book.specs.{Book.{repository_of, Sound}, Flattening.{packages}}
+use Rattle.row_book.specs.{Props.{repository_code, Same-prop, Sound-prop}, Pruning.{IdleClause}}
+use Rattle.row_book.specs.Repository.{Repository}
+use Rattle.row_book.specs.Rounds.{RoundStep, FlatStep, MergeStep, IdleStep, kernel, kernel_class}
+use Rattle.row_book.specs.Rounds.{kernel_held, kernel_steps}
+use Rattle.row_book.specs.{Trail.{SoundStep, SoundSteps, trail_meaning}, declared.book.Book.{Book}}
+use Rattle.row_book.specs.declared.trail.Step.{Step}
 use Rattle.row_book.specs.declared.trail.Step.TheVariants.{Flat, Idle, Merge}
 use Rattle.kernel_rounds.specs.declared.extraction.Kernel.{Kernel}
-use Rattle.relation_fields.specs.{declared.packages.Home.{Home}, declared.packages.PackageFacts.{PackageFacts}}
+use Rattle.relation_fields.specs.declared.packages.Home.{Home}
+use Rattle.relation_fields.specs.declared.packages.PackageFacts.{PackageFacts}
 use Rattle.repo_model.specs.Repository.{suite_repository}
 
 -- a book is a repository over the pool, and sound

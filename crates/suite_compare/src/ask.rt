@@ -1,8 +1,10 @@
 //! What goals ask for: packages, and classes of the kernel.
-ghost use Rattle.std.specs.Prelude.{◌≡◌, ◌↔◌, ◌<◌, ℕ, None, Some, map, length, slice_index_or, IfOk, IfErr, OnOk};
+ghost use Rattle.std.specs.Prelude.{◌≡◌, ◌↔◌, ◌<◌, ℕ, None, Some, map, length, slice_index_or};
+ghost use Rattle.std.specs.Prelude.{IfOk, IfErr, OnOk};
 ghost use Rattle.listed.specs.Lists.{Ascending, In};
 ghost use Rattle.repo_model.specs.Repository.{suite_repository};
-ghost use Rattle.suite_compare.specs.{Asking.{goal_classes, images_of, wanted_by}, Answering.{unknown_goal, OnUnknown}, Bearers.{AreClasses}};
+ghost use Rattle.suite_compare.specs.Asking.{goal_classes, images_of, wanted_by};
+ghost use Rattle.suite_compare.specs.{Answering.{unknown_goal, OnUnknown}, Bearers.{AreClasses}};
 
 use crate::answers::DecideError;
 use crate::view::SuiteView;

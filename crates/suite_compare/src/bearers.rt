@@ -1,8 +1,10 @@
 //! The packages that bear the names of an old side, and their classes.
-ghost use Rattle.std.specs.Prelude.{◌≡◌, ◌<◌, ℕ, List, [], IfOk, OnOk, filter, length, map, slice_index_or};
+ghost use Rattle.std.specs.Prelude.{◌≡◌, ◌<◌, ℕ, List, [], IfOk, OnOk, filter, length, map};
+ghost use Rattle.std.specs.Prelude.{slice_index_or};
 ghost use Rattle.listed.specs.Lists.{In};
 ghost use Rattle.row_book.specs.{Book.{listed_for}, Flags.{flag}};
-ghost use Rattle.suite_compare.specs.{Bearers.{bearers_of, filled_places, AreClasses}, Groups.{AreEach}};
+ghost use Rattle.suite_compare.specs.Bearers.{bearers_of, filled_places, AreClasses};
+ghost use Rattle.suite_compare.specs.Groups.{AreEach};
 
 use crate::ask::classes_by;
 use crate::few::{FewNumbers, few_at};

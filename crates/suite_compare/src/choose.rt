@@ -1,11 +1,14 @@
 //! First choices: sets of classes that show, without a search, that goals can be met.
 //!
 //! A set is made first and then tested, so that no proof needs to know how it was made.
-ghost use Rattle.std.specs.{Prelude.{◌≡◌, ◌<◌, ◌∷◌, [], ℕ, List, true, IfOk, OnOk, length}, List.{list_any}};
+ghost use Rattle.std.specs.Prelude.{◌≡◌, ◌<◌, ◌∷◌, [], ℕ, List, true, IfOk, OnOk, length};
+ghost use Rattle.std.specs.List.{list_any};
 ghost use Rattle.clause_pool.specs.Interned.{clauses_at, OfPool};
 ghost use Rattle.listed.specs.Lists.{In, has};
 ghost use Rattle.row_book.specs.{Book.{listed_for}, Lent.{repository_in}, Repository.{clauses_of}};
-ghost use Rattle.suite_compare.specs.{FirstChoices.{IsFirstChoice}, Choices.{has_first_member, AreBelow, HaveFirsts, IsChosen, IsServed}};
+ghost use Rattle.suite_compare.specs.FirstChoices.{IsFirstChoice};
+ghost use Rattle.suite_compare.specs.Choices.{has_first_member, AreBelow, HaveFirsts, IsChosen};
+ghost use Rattle.suite_compare.specs.Choices.{IsServed};
 
 use crate::class_set::ClassSet;
 use clause_pool::{ClauseId, NumList, Pool};

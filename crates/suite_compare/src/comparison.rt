@@ -2,18 +2,23 @@
 //!
 //! Names with the same classes have the same verdicts, so kinds are asked. A pair is searched in
 //! the order of its names, since the number of failed leaves may depend on it.
-ghost use Rattle.std.specs.{Prelude.{◌≡◌, ◌<◌, ◌++◌, [], ℕ, List, IfOk, OnOk, length, slice_index_or}, Option.{ForSome}};
+ghost use Rattle.std.specs.Prelude.{◌≡◌, ◌<◌, ◌++◌, [], ℕ, List, IfOk, OnOk, length};
+ghost use Rattle.std.specs.{Prelude.{slice_index_or}, Option.{ForSome}};
 ghost use Rattle.listed.specs.Lists.{In};
-ghost use Rattle.relation_fields.specs.{declared.packages.Home.{Home}, declared.packages.PackageFacts.{PackageFacts}};
+ghost use Rattle.relation_fields.specs.declared.packages.Home.{Home};
+ghost use Rattle.relation_fields.specs.declared.packages.PackageFacts.{PackageFacts};
 ghost use Rattle.repo_model.specs.Repository.{suite_repository};
 ghost use Rattle.clause_solver.specs.{Outcomes.{IsBudget}, declared.outcomes.Verdict.{Verdict}};
-ghost use Rattle.suite_compare.specs.{Asking.{verdict_in}, declared.verdicts.Bad.{Bad}, Bad.{AreAllBad}, Known.{AreKnownPairs}};
+ghost use Rattle.suite_compare.specs.{Asking.{verdict_in}, declared.verdicts.Bad.{Bad}};
+ghost use Rattle.suite_compare.specs.{Bad.{AreAllBad}, Known.{AreKnownPairs}};
 ghost use Rattle.suite_compare.specs.{Bearers.{bearer_classes, FitsKernel}, Names.{names_of_both}};
-ghost use Rattle.suite_compare.specs.{Comparing.{told_pairs, told_report, told_singles, AreBothVerdicts, IsTable}, Partners.{old_kind, IsJointTable}};
+ghost use Rattle.suite_compare.specs.Comparing.{told_pairs, told_report, told_singles};
+ghost use Rattle.suite_compare.specs.Comparing.{AreBothVerdicts, IsTable};
+ghost use Rattle.suite_compare.specs.Partners.{old_kind, IsKindPairTable};
 ghost use Rattle.suite_compare.specs.{Report.{first_told, report}, Lent.{IsLentKernel}};
 
 use crate::few::FewNumbers;
-use crate::gather::{JointTable, Partners, joint_table, new_kind, old_kind, partners_of};
+use crate::gather::{KindPairTable, Partners, kind_pair_table, new_kind, old_kind, partners_of};
 use crate::judge::Judge;
 use crate::known::{KnownPairs, pairs_of};
 use crate::new_side::NewSide;
@@ -27,16 +32,16 @@ use crate::view::SuiteView;
 use row_book::LentBook;
 use std::alloc::{AllocError, Global};
 
-/// For each joint (a kind in the old suite with one in the new), the names that are broken or open
+/// For each pair of a kind in the old suite with one in the new, the names that are broken or open
 /// beside its names.
 fn all_partners(
     alloc: Global,
     old: &Judge,
-    table: &JointTable,
+    table: &KindPairTable,
     bad: &[BadList],
 ) -> Result<Vec<Partners>, AllocError>
-    requires fits { IsJointTable table.now }
-    requires olds { (a : ℕ) → a < length table.now.joints.old.items →
+    requires fits { IsKindPairTable table.now }
+    requires olds { (a : ℕ) → a < length table.now.kind_pairs.old.items →
         old_kind table.now a < length old.now.kinds.items }
     requires count { length table.now.by_new.items ≡ length bad.now }
     requires bad { (k : ℕ) (b : Bad) → In b (slice_index_or bad.now k []) →
@@ -44,9 +49,9 @@ fn all_partners(
     ensures { IfOk result (λ partners. IsTable old.now table.now bad.now partners.items) }
 {
     let mut made = Vec::new(alloc);
-    for joint in 0..table.joints.new.len() {
-        let first = old_kind(table, joint);
-        let kind = new_kind(table, joint);
+    for kind_pair in 0..table.kind_pairs.new.len() {
+        let first = old_kind(table, kind_pair);
+        let kind = new_kind(table, kind_pair);
         let partners = partners_of(alloc, old, table, bads_at(bad, kind), first)?;
         made.push(partners)?;
     }
@@ -56,15 +61,15 @@ fn all_partners(
 /// The lines of the names by themselves.
 fn single_lines(alloc: Global, sides: &NewSide) -> Result<LineList, AllocError>
     ensures { (v w : List (List ℕ) → Verdict) → AreBothVerdicts sides.now v w →
-        IfOk result (λ lines. lines ≡ told_singles v w sides.now.part.names.items) }
+        IfOk result (λ lines. lines ≡ told_singles v w sides.now.common.names.items) }
 {
-    let part = &sides.part;
+    let common = &sides.common;
     let mut lines = LineList::new(alloc);
-    for place in 0..part.names.len() {
-        let before = verdict_of(sides.old, &part.of, place);
-        let after = verdict_of(&sides.side, &sides.side.of, place);
+    for place in 0..common.names.len() {
+        let before = verdict_of(sides.old, &common.kind_of, place);
+        let after = verdict_of(&sides.side, &sides.side.kind_of, place);
         let finding = finding_of(before, after);
-        push_single(alloc, name_at(&part.names, place), finding, &mut lines)?;
+        push_single(alloc, name_at(&common.names, place), finding, &mut lines)?;
     }
     Ok(lines)
 }
@@ -78,9 +83,9 @@ fn put_pair_lines(
 ) -> Result<(), AllocError>
     requires { AreAllBad sides.now.side.judge bad.now }
     ensures { (v w : List (List ℕ) → Verdict) → AreBothVerdicts sides.now v w →
-        OnOk result (lines.new ≡ lines.old ++ told_pairs v w sides.now.part.names.items) }
+        OnOk result (lines.new ≡ lines.old ++ told_pairs v w sides.now.common.names.items) }
 {
-    let table = joint_table(alloc, sides)?;
+    let table = kind_pair_table(alloc, sides)?;
     let partners = all_partners(alloc, &sides.old.judge, &table, bad)?;
     tell_pairs(alloc, sides, &table, &partners, lines)?;
     Ok(())
@@ -89,7 +94,7 @@ fn put_pair_lines(
 /// The lines of a report on the names of both sides.
 fn lines_of(alloc: Global, sides: &NewSide) -> Result<LineList, AllocError>
     ensures { (v w : List (List ℕ) → Verdict) → AreBothVerdicts sides.now v w →
-        IfOk result (λ lines. lines ≡ told_report v w sides.now.part.names.items) }
+        IfOk result (λ lines. lines ≡ told_report v w sides.now.common.names.items) }
 {
     let mut lines = single_lines(alloc, sides)?;
     let bad = bad_lists(alloc, &sides.side.judge, &sides.side.singles)?;
@@ -114,7 +119,8 @@ fn first_lines_of(
 ) -> Result<FirstLines, AllocError>
     requires { ForSome known AreKnownPairs }
     ensures lines { (v w : List (List ℕ) → Verdict) → AreBothVerdicts sides.now v w → IfOk result
-        (λ made. first_told made.lines ≡ first_told (told_report v w sides.now.part.names.items)) }
+        (λ made. first_told made.lines
+        ≡ first_told (told_report v w sides.now.common.names.items)) }
     ensures known { IfOk result (λ made. ForSome made.known AreKnownPairs) }
 {
     let mut lines = single_lines(alloc, sides)?;
@@ -152,6 +158,7 @@ pub fn compare(
 {
     let before = OldSide::new(alloc, old, budget)?;
     let report = report_of(alloc, &before, new);
+    // Its one end: a proof follows each field at every end of the body that owns it.
     drop(before);
     report
 }
@@ -170,6 +177,7 @@ fn report_of(alloc: Global, old: &OldSide, new: &SuiteView) -> Result<Report, Al
 {
     let after = new_side_of(alloc, old, new)?;
     let report = report_beside(alloc, &after);
+    // Its one end: a proof follows each field at every end of the body that owns it.
     drop(after);
     report
 }
@@ -177,7 +185,7 @@ fn report_of(alloc: Global, old: &OldSide, new: &SuiteView) -> Result<Report, Al
 /// What a new side has broken of an old one.
 fn report_beside(alloc: Global, sides: &NewSide) -> Result<Report, AllocError>
     ensures { (v w : List (List ℕ) → Verdict) → AreBothVerdicts sides.now v w →
-        IfOk result (λ made. made.lines ≡ told_report v w sides.now.part.names.items) }
+        IfOk result (λ made. made.lines ≡ told_report v w sides.now.common.names.items) }
 {
     let lines = lines_of(alloc, sides)?;
     Ok(Report { lines })
@@ -201,6 +209,7 @@ pub fn first_line(
 {
     let made = new_side_of(alloc, old, new)?;
     let first = first_beside(alloc, &made, None);
+    // Its one end: a proof follows each field at every end of the body that owns it.
     drop(made);
     Ok(first?.line)
 }
@@ -242,6 +251,7 @@ pub fn first_line_by(
 {
     let made = new_side_by(alloc, old, kernel, classes)?;
     let first = first_beside(alloc, &made, known);
+    // Its one end: a proof follows each field at every end of the body that owns it.
     drop(made);
     first
 }
@@ -254,7 +264,8 @@ fn first_beside(
 ) -> Result<FirstLine, AllocError>
     requires { ForSome known AreKnownPairs }
     ensures first { (v w : List (List ℕ) → Verdict) → AreBothVerdicts sides.now v w →
-        IfOk result (λ made. made.line ≡ first_told (told_report v w sides.now.part.names.items)) }
+        IfOk result (λ made. made.line
+        ≡ first_told (told_report v w sides.now.common.names.items)) }
     ensures known { IfOk result (λ made. ForSome made.known AreKnownPairs) }
 {
     let FirstLines { lines, known } = first_lines_of(alloc, sides, known)?;

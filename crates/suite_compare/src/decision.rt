@@ -1,7 +1,8 @@
 //! Decides goals: by the search for a healthy set of classes, which is then taken back to packages.
 ghost use Rattle.std.specs.Prelude.{◌≡◌, None, Some, IfOk, IfErr, OnOk};
 ghost use Rattle.clause_solver.specs.Outcomes.{IsBudget};
-ghost use Rattle.suite_compare.specs.Answering.{unknown_goal, IsAnswerOf, HasCertificate, OnUnknown};
+ghost use Rattle.suite_compare.specs.Answering.{unknown_goal, IsAnswerOf, HasCertificate};
+ghost use Rattle.suite_compare.specs.Answering.{OnUnknown};
 
 use crate::answers::{Answer, DecideError};
 use crate::ask::ask;

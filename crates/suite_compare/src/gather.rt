@@ -1,16 +1,18 @@
-//! For a name: the names that share a line with it.
+//! The partners of a name: the names that share a line of the report with it.
 //!
-//! A name has an old kind and a new kind: that pair is its joint. Its partners are the names that
-//! share a line with it. A bad kind is one that does not go together with another one, or is not
-//! known to.
-ghost use Rattle.std.specs.{Prelude.{◌≡◌, ◌<◌, ◌++◌, ℕ, IfOk, OnOk, is_some, length, slice_index_or}, List.{flat_map}};
+//! A name has a kind in the old suite and one in the new suite: its pair of kinds. A kind is bad
+//! with another one if the two do not go together, or are not known to.
+ghost use Rattle.std.specs.Prelude.{◌≡◌, ◌<◌, ◌++◌, ℕ, IfOk, OnOk, is_some, length, slice_index_or};
+ghost use Rattle.std.specs.List.{flat_map};
 ghost use Rattle.listed.specs.Lists.{In};
 ghost use Rattle.row_book.specs.Book.{listed_for};
-ghost use Rattle.suite_compare.specs.{Kinds.{together_in, AreJoined}, Report.{finding}, declared.verdicts.Bad.{Bad}};
-ghost use Rattle.suite_compare.specs.Partners.{beside, beside_all, is_open, new_kind, old_kind, picked, ArePartners, IsJointTable};
+ghost use Rattle.suite_compare.specs.{Kinds.{together_in, ArePaired}, Report.{finding}};
+ghost use Rattle.suite_compare.specs.declared.verdicts.Bad.{Bad};
+ghost use Rattle.suite_compare.specs.Partners.{beside, beside_all, is_open, new_kind, old_kind};
+ghost use Rattle.suite_compare.specs.Partners.{picked, ArePartners, IsKindPairTable};
 
 use crate::judge::Judge;
-use crate::kinds::{Joints, joints_of};
+use crate::kinds::{KindPairs, kind_pairs_of};
 use crate::new_side::NewSide;
 use crate::places::{PlaceList, place_at, places_at, places_by, sort_once};
 use crate::report::{Finding, finding_of};
@@ -21,16 +23,16 @@ use std::alloc::{AllocError, Global};
 
 /// The pairs of kinds with what is asked of them.
 #[derive(Drop)]
-pub(crate) struct JointTable {
+pub(crate) struct KindPairTable {
     /// The pairs.
-    pub(crate) joints: Joints,
+    pub(crate) kind_pairs: KindPairs,
     /// The names of each pair.
     pub(crate) members: Vec<PlaceList>,
     /// For each kind of the new suite the pairs that have it.
     pub(crate) by_new: Vec<PlaceList>,
 }
 
-/// The names that share a line with the names of a joint, both lists ascending.
+/// The names that share a line with the names of a pair of kinds, both lists ascending.
 #[derive(Drop)]
 pub(crate) struct Partners {
     /// All of them.
@@ -47,49 +49,50 @@ struct Found {
 }
 
 /// The pairs of the kinds of each name in the old and in the new suite.
-pub(crate) fn joint_table(alloc: Global, sides: &NewSide) -> Result<JointTable, AllocError>
-    ensures joined { IfOk result (λ table. AreJoined sides.now.part.of.items sides.now.side.of.items
-        table.joints.old.items table.joints.new.items table.joints.of.items) }
-    ensures fits { IfOk result IsJointTable }
+pub(crate) fn kind_pair_table(alloc: Global, sides: &NewSide) -> Result<KindPairTable, AllocError>
+    ensures paired { IfOk result (λ table.
+        ArePaired sides.now.common.kind_of.items sides.now.side.kind_of.items
+        table.kind_pairs.old.items table.kind_pairs.new.items table.kind_pairs.pair_of.items) }
+    ensures fits { IfOk result IsKindPairTable }
     ensures count { IfOk result (λ table. length table.by_new.items
         ≡ length sides.now.side.judge.kinds.items) }
 {
-    let joints = joints_of(alloc, &sides.part.of, &sides.side.of)?;
-    let members = places_by(alloc, joints.new.len(), &joints.of)?;
-    let by_new = places_by(alloc, sides.side.judge.kinds.len(), &joints.new)?;
-    Ok(JointTable {
-        joints,
+    let kind_pairs = kind_pairs_of(alloc, &sides.common.kind_of, &sides.side.kind_of)?;
+    let members = places_by(alloc, kind_pairs.new.len(), &kind_pairs.pair_of)?;
+    let by_new = places_by(alloc, sides.side.judge.kinds.len(), &kind_pairs.new)?;
+    Ok(KindPairTable {
+        kind_pairs,
         members,
         by_new,
     })
 }
 
 /// The kind of a pair in the old suite.
-pub(crate) fn old_kind(table: &JointTable, joint: usize) -> usize
-    requires { joint < length table.now.joints.old.items }
-    ensures { result ≡ old_kind table.now joint }
+pub(crate) fn old_kind(table: &KindPairTable, kind_pair: usize) -> usize
+    requires { kind_pair < length table.now.kind_pairs.old.items }
+    ensures { result ≡ old_kind table.now kind_pair }
 {
-    place_at(&table.joints.old, joint)
+    place_at(&table.kind_pairs.old, kind_pair)
 }
 
 /// The kind of a pair in the new suite.
-pub(crate) fn new_kind(table: &JointTable, joint: usize) -> usize
-    requires { joint < length table.now.joints.new.items }
-    ensures { result ≡ new_kind table.now joint }
+pub(crate) fn new_kind(table: &KindPairTable, kind_pair: usize) -> usize
+    requires { kind_pair < length table.now.kind_pairs.new.items }
+    ensures { result ≡ new_kind table.now kind_pair }
 {
-    place_at(&table.joints.new, joint)
+    place_at(&table.kind_pairs.new, kind_pair)
 }
 
 /// The names of a pair.
-fn names_of(table: &JointTable, joint: usize) -> &[usize]
-    requires { joint < length table.now.members.items }
-    ensures { result.now ≡ listed_for table.now.members.items joint }
+fn names_of(table: &KindPairTable, kind_pair: usize) -> &[usize]
+    requires { kind_pair < length table.now.members.items }
+    ensures { result.now ≡ listed_for table.now.members.items kind_pair }
 {
-    places_at(&table.members, joint)
+    places_at(&table.members, kind_pair)
 }
 
 /// The pairs that have a kind in the new suite.
-fn joints_with(table: &JointTable, kind: usize) -> &[usize]
+fn kind_pairs_with(table: &KindPairTable, kind: usize) -> &[usize]
     requires { kind < length table.now.by_new.items }
     ensures { result.now ≡ listed_for table.now.by_new.items kind }
 {
@@ -140,31 +143,31 @@ fn add_names(names: &[usize], finding: Option<Finding>, found: &mut Found) -> Re
     }
 }
 
-/// Appends the names of all joints with this new kind, if there is a finding.
-fn add_joints(
+/// Appends the names of all pairs of kinds with this new kind, if there is a finding.
+fn add_kind_pairs(
     alloc: Global,
     old: &Judge,
-    table: &JointTable,
-    joints: &[usize],
+    table: &KindPairTable,
+    kind_pairs: &[usize],
     first: usize,
     verdict: Verdict,
     found: &mut Found,
 ) -> Result<(), AllocError>
     requires first { first < length old.now.kinds.items }
-    requires olds { (a : ℕ) → a < length table.now.joints.old.items →
+    requires olds { (a : ℕ) → a < length table.now.kind_pairs.old.items →
         old_kind table.now a < length old.now.kinds.items }
-    requires fits { IsJointTable table.now }
-    requires joints { (i : ℕ) → i < length joints.now →
-        slice_index_or joints.now i 0 < length table.now.joints.old.items }
+    requires fits { IsKindPairTable table.now }
+    requires kind_pairs { (i : ℕ) → i < length kind_pairs.now →
+        slice_index_or kind_pairs.now i 0 < length table.now.kind_pairs.old.items }
     ensures told { OnOk result (found.new.told.items ≡ found.old.told.items
-        ++ flat_map (beside is_some old.now table.now first verdict) joints.now) }
+        ++ flat_map (beside is_some old.now table.now first verdict) kind_pairs.now) }
     ensures undecided { OnOk result (found.new.undecided.items ≡ found.old.undecided.items
-        ++ flat_map (beside is_open old.now table.now first verdict) joints.now) }
+        ++ flat_map (beside is_open old.now table.now first verdict) kind_pairs.now) }
 {
-    for joint in joints {
-        let second = old_kind(table, *joint);
+    for kind_pair in kind_pairs {
+        let second = old_kind(table, *kind_pair);
         let finding = finding_with(alloc, old, first, second, verdict)?;
-        let names = names_of(table, *joint);
+        let names = names_of(table, *kind_pair);
         add_names(names, finding, found)?;
     }
     Ok(())
@@ -174,15 +177,15 @@ fn add_joints(
 fn add_bad(
     alloc: Global,
     old: &Judge,
-    table: &JointTable,
+    table: &KindPairTable,
     bad: &[Bad],
     first: usize,
     found: &mut Found,
 ) -> Result<(), AllocError>
     requires first { first < length old.now.kinds.items }
-    requires olds { (a : ℕ) → a < length table.now.joints.old.items →
+    requires olds { (a : ℕ) → a < length table.now.kind_pairs.old.items →
         old_kind table.now a < length old.now.kinds.items }
-    requires fits { IsJointTable table.now }
+    requires fits { IsKindPairTable table.now }
     requires bad { (b : Bad) → In b bad.now → b.kind < length table.now.by_new.items }
     ensures told { OnOk result (found.new.told.items
         ≡ found.old.told.items ++ flat_map (beside_all is_some old.now table.now first) bad.now) }
@@ -190,24 +193,24 @@ fn add_bad(
         ++ flat_map (beside_all is_open old.now table.now first) bad.now) }
 {
     for entry in bad {
-        let joints = joints_with(table, entry.kind);
-        add_joints(alloc, old, table, joints, first, entry.verdict, found)?;
+        let kind_pairs = kind_pairs_with(table, entry.kind);
+        add_kind_pairs(alloc, old, table, kind_pairs, first, entry.verdict, found)?;
     }
     Ok(())
 }
 
-/// The names that share a line with those of a joint, by the bad kinds.
+/// The names that share a line with those of a pair of kinds, by the bad kinds.
 pub(crate) fn partners_of(
     alloc: Global,
     old: &Judge,
-    table: &JointTable,
+    table: &KindPairTable,
     bad: &[Bad],
     first: usize,
 ) -> Result<Partners, AllocError>
     requires first { first < length old.now.kinds.items }
-    requires olds { (a : ℕ) → a < length table.now.joints.old.items →
+    requires olds { (a : ℕ) → a < length table.now.kind_pairs.old.items →
         old_kind table.now a < length old.now.kinds.items }
-    requires fits { IsJointTable table.now }
+    requires fits { IsKindPairTable table.now }
     requires bad { (b : Bad) → In b bad.now → b.kind < length table.now.by_new.items }
     ensures { IfOk result (ArePartners old.now table.now first bad.now) }
 {

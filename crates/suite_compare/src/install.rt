@@ -1,7 +1,8 @@
 //! The way from classes that were found to packages that are installed.
 ghost use Rattle.std.specs.{Prelude.{◌≡◌, ◌<◌, filter, length, IfOk}, List.{range_with_len}};
 ghost use Rattle.install_lift.specs.{Lifting.{lift_of}, Trimming.{trim_of}};
-ghost use Rattle.row_book.specs.{Book.{repository_of}, Flags.{flag}, Needs.{NeedsFit}, Repository.{Healthy}, Sets.{HitsAll}, Trail.{trail_meaning}};
+ghost use Rattle.row_book.specs.{Book.{repository_of}, Flags.{flag}, Needs.{NeedsFit}};
+ghost use Rattle.row_book.specs.{Repository.{Healthy}, Sets.{HitsAll}, Trail.{trail_meaning}};
 ghost use Rattle.suite_compare.specs.Answering.{true_numbers};
 
 use crate::view::SuiteView;

@@ -1,6 +1,7 @@
 //! What verdicts on kinds are asked of.
 ghost use Rattle.std.specs.Prelude.{◌≡◌, length};
-ghost use Rattle.row_book.specs.{Lent.{repository_in}, Needs.{AreNeeds, NeedsFit}, Props.{AreNeeds-prop, Same-prop}};
+ghost use Rattle.row_book.specs.{Lent.{repository_in}, Needs.{AreNeeds, NeedsFit}};
+ghost use Rattle.row_book.specs.Props.{AreNeeds-prop, Same-prop};
 ghost use Rattle.clause_solver.specs.Outcomes.{IsBudget};
 
 use clause_pool::NumList;

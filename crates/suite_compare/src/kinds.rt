@@ -1,7 +1,8 @@
 //! Kinds: lists of classes, each once, numbered as they came, and pairs of kinds likewise.
-ghost use Rattle.std.specs.Prelude.{◌≡◌, ◌<◌, ◌+◌, ℕ, List, IfOk, OnOk, length, map, slice_index_or};
+ghost use Rattle.std.specs.Prelude.{◌≡◌, ◌<◌, ◌+◌, ℕ, List, IfOk, OnOk, length, map};
+ghost use Rattle.std.specs.Prelude.{slice_index_or};
 ghost use Rattle.row_book.specs.Book.{listed_for};
-ghost use Rattle.suite_compare.specs.Kinds.{AreJoined, AreKinds, AreNumbered};
+ghost use Rattle.suite_compare.specs.Kinds.{ArePaired, AreKinds, AreNumbered};
 
 use crate::few::{FewNumbers, few_at};
 use crate::places::place_at;
@@ -16,19 +17,19 @@ pub(crate) struct Kinds {
     /// The lists by their numbers.
     pub(crate) lists: Vec<NumList>,
     /// The kind of each name.
-    pub(crate) of: Vec<usize>,
+    pub(crate) kind_of: Vec<usize>,
 }
 
 /// Pairs of kinds in the old and in the new suite, each once, and for each name the number of its
 /// own.
 #[derive(Drop)]
-pub(crate) struct Joints {
+pub(crate) struct KindPairs {
     /// The kind of each pair in the old suite.
     pub(crate) old: Vec<usize>,
     /// The kind of each pair in the new suite.
     pub(crate) new: Vec<usize>,
     /// The pair of each name.
-    pub(crate) of: Vec<usize>,
+    pub(crate) pair_of: Vec<usize>,
 }
 
 /// The keys of items, each numbered once as it came.
@@ -39,7 +40,7 @@ pub(crate) struct Numbering {
     /// For each key the first item that has it.
     firsts: Vec<usize>,
     /// For each item the number of its key.
-    of: Vec<usize>,
+    number_of: Vec<usize>,
 }
 
 impl Numbering {
@@ -47,28 +48,29 @@ impl Numbering {
     #[tactic(auto, using(crate::proofs::Numbered::numbered_none))]
     fn new(alloc: Global) -> Numbering
         ensures { (keys : ℕ → List ℕ) →
-            AreNumbered keys 0 result.seen result.firsts.items result.of.items }
+            AreNumbered keys 0 result.seen result.firsts.items result.number_of.items }
     {
         Numbering {
             seen: KeyTable::new(alloc),
             firsts: Vec::new(alloc),
-            of: Vec::new(alloc),
+            number_of: Vec::new(alloc),
         }
     }
 
     /// One more item with its key.
     fn put(&mut self, key: &[u64]) -> Result<(), AllocError>
         ensures { (keys : ℕ → List ℕ) (n : ℕ) → keys n ≡ key.now →
-            AreNumbered keys n self.old.seen self.old.firsts.items self.old.of.items → OnOk result
-            (AreNumbered keys (n + 1) self.new.seen self.new.firsts.items self.new.of.items) }
+            AreNumbered keys n self.old.seen self.old.firsts.items self.old.number_of.items →
+            OnOk result (AreNumbered keys (n + 1)
+            self.new.seen self.new.firsts.items self.new.number_of.items) }
     {
         if let Some(number) = self.seen.find(key) {
-            self.of.push(number)?;
+            self.number_of.push(number)?;
             return Ok(());
         }
-        self.firsts.push(self.of.len())?;
+        self.firsts.push(self.number_of.len())?;
         let number = self.seen.push(key)?;
-        self.of.push(number)?;
+        self.number_of.push(number)?;
         Ok(())
     }
 }
@@ -119,7 +121,7 @@ pub(crate) fn numbers_at(
 
 /// The kinds of lists of classes.
 pub(crate) fn kinds_of(alloc: Global, lists: &[FewNumbers]) -> Result<Kinds, AllocError>
-    ensures { IfOk result (λ kinds. AreKinds lists.now kinds.lists.items kinds.of.items) }
+    ensures { IfOk result (λ kinds. AreKinds lists.now kinds.lists.items kinds.kind_of.items) }
 {
     let mut numbering = Numbering::new(alloc);
     let mut key = Vec::new(alloc);
@@ -130,19 +132,20 @@ pub(crate) fn kinds_of(alloc: Global, lists: &[FewNumbers]) -> Result<Kinds, All
     let kinds = lists_at(alloc, lists, &numbering.firsts)?;
     Ok(Kinds {
         lists: kinds,
-        of: numbering.of,
+        kind_of: numbering.number_of,
     })
 }
 
 /// The pairs of the kinds of each name in the old and in the new suite.
-pub(crate) fn joints_of(
+pub(crate) fn kind_pairs_of(
     alloc: Global,
     old_of: &[usize],
     new_of: &[usize],
-) -> Result<Joints, AllocError>
+) -> Result<KindPairs, AllocError>
     requires { length old_of.now ≡ length new_of.now }
-    ensures { IfOk result (λ joints.
-        AreJoined old_of.now new_of.now joints.old.items joints.new.items joints.of.items) }
+    ensures { IfOk result (λ kind_pairs.
+        ArePaired old_of.now new_of.now kind_pairs.old.items kind_pairs.new.items
+        kind_pairs.pair_of.items) }
 {
     let mut numbering = Numbering::new(alloc);
     for place in 0..old_of.len() {
@@ -150,9 +153,9 @@ pub(crate) fn joints_of(
     }
     let old = numbers_at(alloc, old_of, &numbering.firsts)?;
     let new = numbers_at(alloc, new_of, &numbering.firsts)?;
-    Ok(Joints {
+    Ok(KindPairs {
         old,
         new,
-        of: numbering.of,
+        pair_of: numbering.number_of,
     })
 }

@@ -2,7 +2,8 @@
 //! kernel, and the same kinds in it, so that their pairs need not be searched again.
 ghost use Rattle.std.specs.{Prelude.{◌≡◌, ◌<◌, IfOk}, Bool.{OnTrue}, Option.{ForSome}};
 ghost use Rattle.row_book.specs.Book.{Sound};
-ghost use Rattle.suite_compare.specs.{Bad.{AreAllBad, AreSingles}, Known.{AreKnownPairs, IsAskedAlike}};
+ghost use Rattle.suite_compare.specs.Bad.{AreAllBad, AreSingles};
+ghost use Rattle.suite_compare.specs.Known.{AreKnownPairs, IsAskedAlike};
 
 use crate::judge::Judge;
 use crate::verdicts::{BadList, bad_lists};

@@ -1,5 +1,6 @@
 //! The laws of goals and verdicts: the functions do nothing, and the contract of each is one law.
-ghost use Rattle.suite_compare.specs.Laws.{AnswerIsVerdict, InstallationsServe, KernelDecides, VerdictIsJudged};
+ghost use Rattle.suite_compare.specs.Laws.{AnswerIsVerdict, InstallationsServe, KernelDecides};
+ghost use Rattle.suite_compare.specs.Laws.{VerdictIsJudged};
 
 /// Goals are co-installable, judged on the stanzas, exactly if some healthy set of classes has a
 /// class of each goal.

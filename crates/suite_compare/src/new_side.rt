@@ -11,22 +11,22 @@ pub(crate) struct NewSide<'s, 'o, 'n> {
     /// The side of the old suite.
     pub(crate) old: &'s Side<'o>,
     /// The names that both have, with their kinds in the old suite.
-    pub(crate) part: Part<'o>,
+    pub(crate) common: CommonNames<'o>,
     /// The side of the new suite, of these names alone.
     pub(crate) side: Side<'n>,
-    ghost long: { length side.of.items ≡ length part.names.items } by { number-set
-        (length side.of.items) (length part.names.items) },
-    ghost old_long: { length part.of.items ≡ length part.names.items } by { number-set
-        (length part.of.items) (length part.names.items) },
-    ghost old_within: { (i : ℕ) → i < length part.names.items →
-        slice_index_or part.of.items i 0 < length old.now.judge.kinds.items },
+    ghost long: { length side.kind_of.items ≡ length common.names.items } by { number-set
+        (length side.kind_of.items) (length common.names.items) },
+    ghost old_long: { length common.kind_of.items ≡ length common.names.items } by { number-set
+        (length common.kind_of.items) (length common.names.items) },
+    ghost old_within: { (i : ℕ) → i < length common.names.items →
+        slice_index_or common.kind_of.items i 0 < length old.now.judge.kinds.items },
 }
 
 /// Those names of a side that another suite has.
 #[derive(Drop)]
-pub(crate) struct Part<'a> {
+pub(crate) struct CommonNames<'a> {
     /// The names.
     pub(crate) names: Vec<LentName<'a>>,
     /// The kind of each of them.
-    pub(crate) of: Vec<usize>,
+    pub(crate) kind_of: Vec<usize>,
 }

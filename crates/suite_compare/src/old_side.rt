@@ -2,7 +2,8 @@
 ghost use Rattle.std.specs.Prelude.{◌≡◌, length};
 ghost use Rattle.repo_model.specs.Goals.{names_in};
 ghost use Rattle.clause_solver.specs.Outcomes.{IsBudget};
-ghost use Rattle.suite_compare.specs.{Props.{number-set, texts-set}, Sided.{named_verdict, AreVerdicts, AreVerdicts-prop}};
+ghost use Rattle.suite_compare.specs.Props.{number-set, texts-set};
+ghost use Rattle.suite_compare.specs.Sided.{named_verdict, AreVerdicts, AreVerdicts-prop};
 
 use crate::side::Side;
 use crate::sides::side_of;
@@ -24,11 +25,11 @@ pub struct OldSide<'a> {
     pub(crate) side: Side<'a>,
     ghost names_are: { names ≡ names_in view.now.suite.packages } by { texts-set names
         (names_in view.now.suite.packages) },
-    ghost long: { length side.of.items ≡ length names } by { number-set
-        (length side.of.items) (length names) },
-    ghost was: { AreVerdicts side side.of.items names (named_verdict view.now.limit
+    ghost long: { length side.kind_of.items ≡ length names } by { number-set
+        (length side.kind_of.items) (length names) },
+    ghost was: { AreVerdicts side side.kind_of.items names (named_verdict view.now.limit
         view.now.kernel.hold view.now.suite.home view.now.suite.packages
-        budget) } by { AreVerdicts-prop side side.of.items names (named_verdict view.now.limit
+        budget) } by { AreVerdicts-prop side side.kind_of.items names (named_verdict view.now.limit
             view.now.kernel.hold view.now.suite.home view.now.suite.packages budget) },
     ghost allowed: { IsBudget budget },
 }

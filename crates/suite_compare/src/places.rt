@@ -1,5 +1,6 @@
 //! Places under keys, ascending lists of them, and what is at a place.
-ghost use Rattle.std.specs.{Prelude.{◌≡◌, ◌<◌, ◌↔◌, [], ℕ, IfOk, OnOk, length, slice_index_or}, List.Sorted.{IsNonDecreasing}};
+ghost use Rattle.std.specs.Prelude.{◌≡◌, ◌<◌, ◌↔◌, [], ℕ, IfOk, OnOk, length, slice_index_or};
+ghost use Rattle.std.specs.List.Sorted.{IsNonDecreasing};
 ghost use Rattle.listed.specs.Lists.{In, has, Ascending};
 ghost use Rattle.row_book.specs.Book.{listed_for};
 ghost use Rattle.clause_solver.specs.declared.outcomes.Verdict.TheVariants.{Spent};

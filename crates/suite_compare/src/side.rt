@@ -12,10 +12,10 @@ pub(crate) struct Side<'a> {
     /// The judge.
     pub(crate) judge: Judge<'a>,
     /// The kind of each name.
-    pub(crate) of: Vec<usize>,
+    pub(crate) kind_of: Vec<usize>,
     /// The verdict on each kind by itself.
     pub(crate) singles: Vec<Verdict>,
-    ghost within: { (i : ℕ) → i < length of.items →
-        slice_index_or of.items i 0 < length judge.kinds.items },
+    ghost within: { (i : ℕ) → i < length kind_of.items →
+        slice_index_or kind_of.items i 0 < length judge.kinds.items },
     ghost told: { AreSingles judge singles.items } by { AreSingles-prop judge singles.items },
 }

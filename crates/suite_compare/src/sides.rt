@@ -2,19 +2,23 @@
 //! together.
 ghost use Rattle.std.specs.Prelude.{◌≡◌, ◌<◌, ℕ, List, true, IfOk, length, map, slice_index_or};
 ghost use Rattle.listed.specs.Lists.{In};
-ghost use Rattle.row_book.specs.{Book.{listed_for}, Lent.{repository_in}, Needs.{AreNeeds, NeedsFit}};
-ghost use Rattle.relation_fields.specs.{declared.packages.Home.{Home}, declared.packages.PackageFacts.{PackageFacts}};
+ghost use Rattle.row_book.specs.{Book.{listed_for}, Lent.{repository_in}};
+ghost use Rattle.row_book.specs.Needs.{AreNeeds, NeedsFit};
+ghost use Rattle.relation_fields.specs.declared.packages.Home.{Home};
+ghost use Rattle.relation_fields.specs.declared.packages.PackageFacts.{PackageFacts};
 ghost use Rattle.repo_model.specs.Repository.{suite_repository};
 ghost use Rattle.clause_solver.specs.Outcomes.{IsBudget};
-ghost use Rattle.suite_compare.specs.{Bearers.{bearer_classes, FitsKernel}, Comparing.{IsNewSide, IsSideBy}, Kinds.{alone_in}, Lent.{IsLentKernel}};
-ghost use Rattle.suite_compare.specs.{Names.{stands_in}, Sided.{named_verdict, AreVerdicts}};
+ghost use Rattle.suite_compare.specs.Bearers.{bearer_classes, FitsKernel};
+ghost use Rattle.suite_compare.specs.{Comparing.{IsNewSide, IsSideBy}, Kinds.{alone_in}};
+ghost use Rattle.suite_compare.specs.{Lent.{IsLentKernel}, Names.{stands_in}};
+ghost use Rattle.suite_compare.specs.Sided.{named_verdict, AreVerdicts};
 
 use crate::bearers::{bearers_of, classes_of_each, filled_places, lists_at, names_at};
 use crate::few::FewNumbers;
 use crate::judge::Judge;
 use crate::kinds::{kinds_of, numbers_at};
 use crate::lent::kernel_of;
-use crate::new_side::{NewSide, Part};
+use crate::new_side::{CommonNames, NewSide};
 use crate::old_side::OldSide;
 use crate::places::{place_at, verdict_at};
 use crate::side::Side;
@@ -58,7 +62,7 @@ fn side_by<'a>(
     let singles = verdicts_alone(alloc, &judge)?;
     Ok(Side {
         judge,
-        of: kinds.of,
+        kind_of: kinds.kind_of,
         singles,
     })
 }
@@ -73,8 +77,8 @@ pub(crate) fn side_of<'a>(
     requires names { (name : List ℕ) → In name names.now →
         stands_in view.now.suite.packages name ≡ true }
     requires budget { IsBudget budget }
-    ensures long { IfOk result (λ side. length side.of.items ≡ length names.now) }
-    ensures verdicts { IfOk result (λ side. AreVerdicts side side.of.items names.now
+    ensures long { IfOk result (λ side. length side.kind_of.items ≡ length names.now) }
+    ensures verdicts { IfOk result (λ side. AreVerdicts side side.kind_of.items names.now
         (named_verdict view.now.limit view.now.kernel.hold
         view.now.suite.home view.now.suite.packages budget)) }
 {
@@ -85,17 +89,21 @@ pub(crate) fn side_of<'a>(
 }
 
 /// Those of the names of an old side that are at these places, each with its kind.
-fn part_at<'a>(alloc: Global, old: &OldSide<'a>, places: &[usize]) -> Result<Part<'a>, AllocError>
+fn common_at<'a>(
+    alloc: Global,
+    old: &OldSide<'a>,
+    places: &[usize],
+) -> Result<CommonNames<'a>, AllocError>
     requires { (i : ℕ) → i < length places.now →
         slice_index_or places.now i 0 < length old.now.names }
-    ensures names { IfOk result (λ part. part.names.items
+    ensures names { IfOk result (λ common. common.names.items
         ≡ map (listed_for old.now.names) places.now) }
-    ensures kinds { IfOk result (λ part. part.of.items
-        ≡ map (λ place. slice_index_or old.now.side.of.items place 0) places.now) }
+    ensures kinds { IfOk result (λ common. common.kind_of.items
+        ≡ map (λ place. slice_index_or old.now.side.kind_of.items place 0) places.now) }
 {
     let names = names_at(alloc, old.names.as_slice(), places)?;
-    let of = numbers_at(alloc, &old.side.of, places)?;
-    Ok(Part { names, of })
+    let kind_of = numbers_at(alloc, &old.side.kind_of, places)?;
+    Ok(CommonNames { names, kind_of })
 }
 
 /// The side of other packages in a comparison with an old view, by their kernel and by the classes
@@ -115,12 +123,12 @@ pub(crate) fn new_side_by<'s, 'o, 'n>(
         IfOk result (IsNewSide old.now home stanzas) }
 {
     let places = filled_places(alloc, &classes)?;
-    let part = part_at(alloc, old, &places)?;
+    let common = common_at(alloc, old, &places)?;
     let lists = lists_at(alloc, &classes, &places)?;
     let side = side_by(alloc, kernel, &lists, old.budget)?;
     Ok(NewSide {
         old: &old.side,
-        part,
+        common,
         side,
     })
 }

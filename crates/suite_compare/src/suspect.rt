@@ -1,7 +1,10 @@
-//! Which kinds may not go together: those whose first choices are at peace do.
-ghost use Rattle.std.specs.{Prelude.{◌≡◌, ◌<◌, ◌++◌, [], ℕ, IfOk, OnOk, length, slice_index_or}, List.{flat_map, range_with_len}};
+//! Which kinds may fail to go together. Two kinds do go together if their first choices are at
+//! peace: no class of one of these conflicts with a class of the other.
+ghost use Rattle.std.specs.Prelude.{◌≡◌, ◌<◌, ◌++◌, [], ℕ, IfOk, OnOk, length, slice_index_or};
+ghost use Rattle.std.specs.List.{flat_map, range_with_len};
 ghost use Rattle.row_book.specs.{Book.{listed_for}, Lent.{repository_in}, Needs.{NeedsFit}};
-ghost use Rattle.suite_compare.specs.Suspects.{without_choice, AreAllChosen, AreChoices, AreHeld, AreHolders, AreSuspects};
+ghost use Rattle.suite_compare.specs.Suspects.{without_choice, AreAllChosen, AreChoices, AreHeld};
+ghost use Rattle.suite_compare.specs.Suspects.{AreHolders, AreSuspects};
 
 use crate::choose::first_choice;
 use crate::class_set::ClassSet;
@@ -15,7 +18,7 @@ use std::alloc::{AllocError, Global};
 #[derive(Drop)]
 pub(crate) struct Choices {
     /// The first choice of each kind; empty if it has none.
-    of: Vec<NumList>,
+    firsts: Vec<NumList>,
     /// For each class the kinds whose first choice has it.
     holders: Vec<PlaceList>,
     /// The kinds without a first choice.
@@ -114,12 +117,12 @@ impl Choices {
         requires { NeedsFit (length kernel.now.book.now.rows) kinds.now }
         ensures { IfOk result (AreChoices (repository_in kernel.now) kinds.now) }
     {
-        let of = choices_of(alloc, kernel, kinds)?;
+        let firsts = choices_of(alloc, kernel, kinds)?;
         let mut holders = empty_lists(alloc, kernel.book.rows.as_slice().len())?;
-        enter_choices(&mut holders, &of)?;
-        let without = without_choice(alloc, &of)?;
+        enter_choices(&mut holders, &firsts)?;
+        let without = without_choice(alloc, &firsts)?;
         Ok(Choices {
-            of,
+            firsts,
             holders,
             without,
         })
@@ -136,9 +139,9 @@ impl Choices {
         requires choices { AreChoices (repository_in kernel.now) kinds.now self.now }
         requires kind { kind < length kinds.now }
         ensures { IfOk result (λ suspects.
-            AreSuspects kernel.now.book.now.conflicts self.now.of.items kind suspects.items) }
+            AreSuspects kernel.now.book.now.conflicts self.now.firsts.items kind suspects.items) }
     {
-        let choices = self.of.as_slice();
+        let choices = self.firsts.as_slice();
         let choice = classes_at(choices, kind);
         if choice.is_empty() {
             let all = all_places(alloc, choices.len())?;

@@ -1,9 +1,11 @@
 //! The lines of a report.
-ghost use Rattle.std.specs.{Prelude.{◌≡◌, ◌<◌, ◌++◌, ℕ, OnOk, Some, filter, length, ltb, slice_index_or}, List.{flat_map, range_with_len}};
+ghost use Rattle.std.specs.Prelude.{◌≡◌, ◌<◌, ◌++◌, ℕ, OnOk, Some, filter, length, ltb};
+ghost use Rattle.std.specs.{Prelude.{slice_index_or}, List.{flat_map, range_with_len}};
 ghost use Rattle.listed.specs.Lists.{In, Ascending};
-ghost use Rattle.suite_compare.specs.{Comparing.{goes_alone}, Report.{pair_line, single_line}, Telling.{found_beside, partners_at, told_after, told_pair}};
+ghost use Rattle.suite_compare.specs.{Comparing.{goes_alone}, Report.{pair_line, single_line}};
+ghost use Rattle.suite_compare.specs.Telling.{found_beside, partners_at, told_after, told_pair};
 
-use crate::gather::{JointTable, Partners};
+use crate::gather::{KindPairTable, Partners};
 use crate::new_side::NewSide;
 use crate::places::{holds, name_at, place_at};
 use crate::report::{Finding, LineList, ReportLine, is_yes};
@@ -13,11 +15,11 @@ use repo_model::LentName;
 use std::alloc::{AllocError, Global};
 
 /// The partners of a pair of kinds.
-fn partners_at(table: &[Partners], joint: usize) -> &Partners
-    requires { joint < length table.now }
-    ensures { result.now ≡ partners_at table.now joint }
+fn partners_at(table: &[Partners], kind_pair: usize) -> &Partners
+    requires { kind_pair < length table.now }
+    ensures { result.now ≡ partners_at table.now kind_pair }
 {
-    &table[joint]
+    &table[kind_pair]
 }
 
 /// Appends the line of a name, if there is a finding.
@@ -111,28 +113,29 @@ fn tell_later(
 pub(crate) fn tell_pairs(
     alloc: Global,
     sides: &NewSide,
-    table: &JointTable,
+    table: &KindPairTable,
     partners: &[Partners],
     lines: &mut LineList,
 ) -> Result<(), AllocError>
-    requires joints { length table.now.joints.of.items ≡ length sides.now.part.names.items }
-    requires within { (i : ℕ) → i < length sides.now.part.names.items →
-        slice_index_or table.now.joints.of.items i 0 < length partners.now }
+    requires kind_pairs { length table.now.kind_pairs.pair_of.items
+        ≡ length sides.now.common.names.items }
+    requires within { (i : ℕ) → i < length sides.now.common.names.items →
+        slice_index_or table.now.kind_pairs.pair_of.items i 0 < length partners.now }
     requires told { (a j : ℕ) → a < length partners.now → In j (partners_at partners.now a).told →
-        j < length sides.now.part.names.items }
+        j < length sides.now.common.names.items }
     requires undecided { (a : ℕ) → a < length partners.now →
         Ascending (partners_at partners.now a).undecided }
-    ensures { let names = sides.now.part.names.items in OnOk result (lines.new
-        ≡ lines.old ++ flat_map (told_after names table.now.joints.of.items partners.now)
+    ensures { let names = sides.now.common.names.items in OnOk result (lines.new
+        ≡ lines.old ++ flat_map (told_after names table.now.kind_pairs.pair_of.items partners.now)
         (filter (goes_alone sides.now.side) (range_with_len 0 (length names)))) }
 {
-    let names = sides.part.names.as_slice();
+    let names = sides.common.names.as_slice();
     for place in 0..names.len() {
-        if !is_yes(verdict_of(&sides.side, &sides.side.of, place)) {
+        if !is_yes(verdict_of(&sides.side, &sides.side.kind_of, place)) {
             continue;
         }
-        let joint = place_at(&table.joints.of, place);
-        tell_later(alloc, names, place, partners_at(partners, joint), lines)?;
+        let kind_pair = place_at(&table.kind_pairs.pair_of, place);
+        tell_later(alloc, names, place, partners_at(partners, kind_pair), lines)?;
     }
     Ok(())
 }

@@ -2,10 +2,15 @@
 //!
 //! A search of two kinds is made only once if one of them is a single class. Such a goal is met at
 //! the root, so both orders have one tree.
-ghost use Rattle.std.specs.{Prelude.{◌≡◌, ◌<◌, ◌==◌, ◌⊎◌, ◌∷◌, [], ℕ, true, IfOk, length, slice_index_or}, List.{find, flat_map}, Option.{option_copied}};
+ghost use Rattle.std.specs.Prelude.{◌≡◌, ◌<◌, ◌==◌, ◌⊎◌, ◌∷◌, [], ℕ, true, IfOk, length};
+ghost use Rattle.std.specs.{Prelude.{slice_index_or}, List.{find, flat_map}};
+ghost use Rattle.std.specs.Option.{option_copied};
 ghost use Rattle.row_book.specs.{Book.{listed_for}, Needs.{IsNeed, NeedsFit}};
-ghost use Rattle.suite_compare.specs.Kinds.{alone_in, kernel_in, kernel_verdict, together_in, AreRivals, IsOneClass};
-ghost use Rattle.suite_compare.specs.{Bad.{bad_entry, entered_verdict, AreAllBad, AreAllBadTo, AreBad, AreSingles}, Report.{is_yes}, Suspects.{AreChoices}};
+ghost use Rattle.suite_compare.specs.Kinds.{alone_in, kernel_in, kernel_verdict, together_in};
+ghost use Rattle.suite_compare.specs.Kinds.{AreRivals, IsOneClass};
+ghost use Rattle.suite_compare.specs.Bad.{bad_entry, entered_verdict, AreAllBad, AreAllBadTo};
+ghost use Rattle.suite_compare.specs.{Bad.{AreBad, AreSingles}, Report.{is_yes}};
+ghost use Rattle.suite_compare.specs.Suspects.{AreChoices};
 
 use crate::judge::Judge;
 use crate::places::{classes_at, verdict_at};

@@ -1,8 +1,11 @@
 //! How views are made.
-ghost use Rattle.std.specs.Prelude.{◌≡◌, ◌<◌, ◌≤◌, length, Bool, List, ℕ, None, Some, IfOk, IfErr, OnOk};
-ghost use Rattle.repo_model.specs.{Facts.{AreNamedPackages}, FirstFault.{first_fault}, Repository.{suite_repository}, Limits.{most_bytes}};
+ghost use Rattle.std.specs.Prelude.{◌≡◌, ◌<◌, ◌≤◌, length, Bool, List, ℕ, None, Some, IfOk, IfErr};
+ghost use Rattle.std.specs.Prelude.{OnOk};
+ghost use Rattle.repo_model.specs.{Facts.{AreNamedPackages}, FirstFault.{first_fault}};
+ghost use Rattle.repo_model.specs.{Repository.{suite_repository}, Limits.{most_bytes}};
 ghost use Rattle.row_book.specs.Rounds.{limit_at};
-ghost use Rattle.suite_compare.specs.{Refusals.{home_in, packages_in, RefusesIndex, RefusesSuite}, Views.{IsViewOf}};
+ghost use Rattle.suite_compare.specs.Refusals.{home_in, packages_in, RefusesIndex, RefusesSuite};
+ghost use Rattle.suite_compare.specs.Views.{IsViewOf};
 ghost use Rattle.clause_pool.specs.Interned.{IsPool};
 
 use crate::refusals::{LimitError, ViewError};
@@ -64,6 +67,7 @@ impl SuiteView {
         match reduce_suite(alloc, &suite, limit, hold) {
             Ok(made) => Ok(view_with(suite, made, limit)),
             Err(error) => {
+                // Its one end: a proof follows each field at every end of the body that owns it.
                 drop(suite);
                 Err(error)
             }
@@ -110,6 +114,7 @@ fn reduce_suite(alloc: Global, suite: &Suite, limit: u32, hold: bool) -> Result<
     match reduce_in(alloc, &mut pool, suite, limit, hold) {
         Ok((book, kernel)) => Ok(Reduced { pool, book, kernel }),
         Err(error) => {
+            // Its one end: a proof follows each field at every end of the body that owns it.
             drop(pool);
             Err(error)
         }

@@ -1,7 +1,7 @@
 -- Clauses and rows of a part in the numbers of the book.
-use Rattle.std.proofs.Common.{◌≡◌, ℕ, zero, suc, ◌<◌, ◌+◌, ltb, List, [], ◌∷◌, ◌++◌, length, get_or, take, Some, None, inl, inr, sym, ◌∙◌, ap, ap₂, subst, arith}
-use Rattle.std.proofs.{lemmas.Bool.{cases_eq, lt-ltb, ltb-true}, lemmas.List.{get_or-set_other, get_or-set_same, length-set, map-append, take_more}}
-use Rattle.std.proofs.lemmas.Option.{same_Some}
+use Rattle.std.proofs.Common.{◌≡◌, ℕ, zero, suc, ◌<◌, ◌+◌, ltb, List, [], ◌∷◌, ◌++◌, length, get_or, take, Some, None, inl, inr, sym, ◌∙◌, ap, ap₂, subst}
+use Rattle.std.proofs.{Common.{arith}, lemmas.Bool.{cases_eq, lt-ltb, ltb-true}}
+use Rattle.std.proofs.{lemmas.List.{get_or-set_other, get_or-set_same, length-set, map-append, take_more}, lemmas.Option.{same_Some}}
 use Rattle.row_book.specs.Parts.{clause_in, clauses_in, number_in}
 use Rattle.std.specs.{Prelude.{Option}, List.{slice_set}}
 use Rattle.clause_pool.specs.{Interned.{Interned, clause_at, clauses_at, Kept}, Lists.{InOrder}}

@@ -1,6 +1,7 @@
 -- The base of the first packages of a book.
-use Rattle.std.proofs.Common.{◌≡◌, ℕ, zero, suc, ◌+◌, ◌-◌, ◌<◌, ◌≤◌, ◌⊎◌, Bool, true, false, ltb, List, [], ◌∷◌, ◌++◌, length, map, replicate, None, inl, inr, refl, sym, ◌∙◌, ap, ap₂, subst, arith}
-use Rattle.std.proofs.{lemmas.Bool.{cases_lt, le-ltb, lt-ltb, ltb-true}, lemmas.List.{get_or-map, get_or_past, length-append, length-map, length-replicate}}
+use Rattle.std.proofs.Common.{◌≡◌, ℕ, zero, suc, ◌+◌, ◌-◌, ◌<◌, ◌≤◌, ◌⊎◌, Bool, true, false, ltb, List, [], ◌∷◌, ◌++◌, length, map, replicate, None, inl, inr}
+use Rattle.std.proofs.{Common.{refl, sym, ◌∙◌, ap, subst, arith}, lemmas.Bool.{cases_lt, le-ltb, lt-ltb, ltb-true}}
+use Rattle.std.proofs.lemmas.List.{get_or-map, get_or_past, length-append, length-map, length-replicate}
 use Rattle.row_book.specs.{Parts.{clause_in, clauses_in, number_in, numbers_up, part, place_in, row_in}, Book.{listed_for, repository_of, Sound}, Flags.{flag}}
 use Rattle.row_book.specs.{Flattening.{core_of, flat, passes}, Repository.{Repository, clauses_of}, Support.{row}, Uses.{row_id, uses_of}}
 use Rattle.row_book.specs.declared.book.Book.{Book}
@@ -10,8 +11,8 @@ use Rattle.std.specs.Prelude.{slice_index_or}
 use Rattle.clause_pool.specs.{Compacting.{RowsOf}, Interned.{Interned, row_at, IsPool, Kept}}
 use Rattle.clause_pool.proofs.Interned.{row_stays}
 use Rattle.clause_flatten.proofs.TidyFlat.{flat_row, flat_size}
-use Rattle.listed.specs.Lists.{In, here, there}
-use Rattle.listed.proofs.Lists.{In_append_cases, In_at, In_cases, In_map, In_map_cases, In_none}
+use Rattle.listed.specs.Lists.{In}
+use Rattle.listed.proofs.Lists.{In_append_cases, In_at, In_cases, In_map, In_map_cases, In_none, map_own}
 use Rattle.suite_part.specs.{BaseRows.{AreBaseRows}, Bases.{first_flags, first_part, row_of_part, FitsIn, IsBase}, Renewed.{EndsInEmpty}}
 use Rattle.suite_part.specs.declared.base.Base.{Base}
 
@@ -40,11 +41,6 @@ first_place : (count k n : ℕ) → n < count → place_in (replicate count true
 first_place zero k n l = absurd (omega arith)
 first_place (suc count) k zero l = refl
 first_place (suc count) k (suc n) l = ap suc (first_place count k n (omega arith))
-
--- a map that changes no element
-map_kept : {A : Type 0} (f : A → A) (xs : List A) → ((x : A) → In x xs → f x ≡ x) → map f xs ≡ xs
-map_kept f [] e = refl
-map_kept f (x ∷ xs) e = ap₂ (λ y ys. y ∷ ys) (e x here) (map_kept f xs (λ y i. e y (there i)))
 
 count_none : (m : ℕ) → count_in (replicate m false) ≡ 0
 count_none zero = refl
@@ -167,8 +163,8 @@ module _ (from work next new last : Interned) (book of_part flattened : Book) (c
       let i : In (row_id few n) few = In_at few n 0 (omega arith) in
       let stays : row_at last (row_id few n) ≡ row R (core_of limit false R) n = few_kept (row_id few n) i ∙ carried n k in
       ap (row_at last) (ap (λ z. row_id z n) more.are ∙ front_item few (replicate (length book.rows - count) more.id) n (omega arith))
-      ∙ sym (map_kept (clause_in (numbers_up firsts)) (row_at last (row_id few n))
-      (λ c j. map_kept (number_in (numbers_up firsts)) c (λ m u. own_number m (few_numbers (row_id few n) i c j m u))))
+      ∙ sym (map_own (clause_in (numbers_up firsts)) (row_at last (row_id few n))
+      (λ c j. map_own (number_in (numbers_up firsts)) c (λ m u. own_number m (few_numbers (row_id few n) i c j m u))))
       ∙ ap (clauses_in (numbers_up firsts)) (stays ∙ ap (row R (core_of limit false R)) (sym (first_place count (length book.rows - count) n k)))
 
   pub base_made : (base : Base) → base.flags.items ≡ firsts → base.limit ≡ limit → base.pool ≡ last → base.rows.items ≡ rows → base.users ≡ uses_of from book.rows → passes limit false (repository_of work of_part) ≡ None → IsPool last → IsBase from book base

@@ -1,12 +1,13 @@
 -- Flags of packages that are not the same in two parts.
-use Rattle.std.proofs.Common.{◌≡◌, ℕ, zero, suc, ◌+◌, ◌-◌, ◌<◌, ◌≤◌, ◌⊎◌, Bool, true, false, not, cond, ltb, List, [], ◌∷◌, ◌++◌, length, get_or, set, map, replicate, inl, inr, refl, sym, ◌∙◌, ap, ap₂, subst, arith}
+use Rattle.std.proofs.Common.{◌≡◌, ℕ, zero, suc, ◌+◌, ◌-◌, ◌<◌, ◌≤◌, ◌⊎◌, Bool, true, false, not, cond, ltb, List, [], ◌∷◌, ◌++◌, length, get_or, set, map}
+use Rattle.std.proofs.Common.{replicate, inl, inr, refl, sym, ◌∙◌, ap, ap₂, subst, arith}
 use Rattle.std.proofs.lemmas.Bool.{both_ways, cases_eq, cases_lt, false_from_ne_true, le-ltb, lt-ltb}
 use Rattle.std.proofs.lemmas.List.{get_or-replicate, get_or-set_other, get_or-set_same, get_or_past, length-append, length-replicate, length-set, map-append}
 use Rattle.std.proofs.lemmas.List.Sums.{sum_by-set}
 use Rattle.std.specs.Prelude.{count_by, IfOk, Result, Ok, Err}
 use Rattle.clause_pool.specs.Interned.{Interned, row_at}
 use Rattle.listed.specs.Lists.{In, has, here}
-use Rattle.listed.proofs.Lists.{In_append_cases, In_append_left, In_append_right, In_at, In_cases, In_has, In_none, any_from}
+use Rattle.listed.proofs.Lists.{In_append_left, In_append_right, In_at, In_has, In_none, any_from, in_push}
 use Rattle.row_book.specs.{Book.{listed_for, repository_of, Sound}, Flags.{flag}, Numbers.{numbers}, Uses.{row_holds, row_id, uses_of}}
 use Rattle.row_book.specs.declared.book.Book.{Book}
 use Rattle.row_book.proofs.{Books.{clauses_row}, Numbers.{numbers_more}, Users.{list_of_uses, user_from}}
@@ -46,10 +47,6 @@ pub if_ok_then : {A E : Type 0} {P Q : A → Type 0} (r : Result A E) → ((x : 
 if_ok_then (Ok x) f p = f x p
 if_ok_then (Err e) f p = tt
 
--- one more at the end
-pub in_end : (xs : List ℕ) (x n : ℕ) → In n (xs ++ x ∷ []) → In n xs ⊎ (n ≡ x)
-in_end xs x n i = elim (In_append_cases xs (x ∷ []) n i) [ inl a ↦ inl a | inr b ↦ elim (In_cases b) [ inl e ↦ inr e | inr j ↦ absurd (In_none j) ] ]
-
 set_up : (flags : List Bool) (x n : ℕ) → x < length flags → flag flags n ≡ true → flag (set flags x true) n ≡ true
 set_up flags x n l u =
     elim (cases_eq n x) [
@@ -65,7 +62,7 @@ module _ (ps qs : List ℕ) (before mid : List Bool) (work more : List ℕ) (x :
       record {
         size = ap length e ∙ length-set mid x true ∙ f.size;
         stays = λ n u. up n (f.stays n u);
-        all = λ n i. elim (in_end ps x n (subst (λ z. In n z) next i)) [ inl a ↦ up n (f.all n a) | inr s ↦ subst (λ z. flag after z ≡ true) (sym s) its ];
+        all = λ n i. elim (in_push ps x n (subst (λ z. In n z) next i)) [ inl a ↦ up n (f.all n a) | inr s ↦ subst (λ z. flag after z ≡ true) (sym s) its ];
         own = λ n u. elim (cases_eq n x) [
           | inl s ↦ inr (subst (λ z. In n z) (sym next) (In_append_right ps (x ∷ []) n (subst (λ z. In z (x ∷ [])) (sym s) here)))
           | inr d ↦ elim (f.own n (sym (get_or-set_other mid x n true false d) ∙ ap (λ z. flag z n) (sym e) ∙ u)) [
@@ -81,7 +78,7 @@ module _ (ps qs : List ℕ) (before mid : List Bool) (work more : List ℕ) (x :
             | inr i ↦ inr (subst (λ z. In n z) (sym m) (In_append_left more (x ∷ []) n i))
           ]
         ];
-        only = λ n i. elim (in_end more x n (subst (λ z. In n z) m i)) [
+        only = λ n i. elim (in_push more x n (subst (λ z. In n z) m i)) [
           | inl a ↦ f.only n a
           | inr s ↦ inr (subst (λ z. z < length before) (sym s) (subst (λ z. x < z) f.size l))
         ];
@@ -91,7 +88,7 @@ module _ (ps qs : List ℕ) (before mid : List Bool) (work more : List ℕ) (x :
   flags_same u = record {
     size = f.size;
     stays = f.stays;
-    all = λ n i. elim (in_end ps x n (subst (λ z. In n z) next i)) [ inl a ↦ f.all n a | inr s ↦ subst (λ z. flag mid z ≡ true) (sym s) u ];
+    all = λ n i. elim (in_push ps x n (subst (λ z. In n z) next i)) [ inl a ↦ f.all n a | inr s ↦ subst (λ z. flag mid z ≡ true) (sym s) u ];
     own = λ n v. elim (f.own n v) [ inl a ↦ inl a | inr i ↦ inr (subst (λ z. In n z) (sym next) (In_append_left ps (x ∷ []) n i)) ];
     waits = f.waits;
     gains = f.gains;
@@ -170,15 +167,11 @@ module _ (users conflicts : List (List ℕ)) (own chosen : List Bool) (size : �
       → Spreads users conflicts own chosen size number new more
   spread_users number p changed new work rest more e f s =
       spread_by number changed new (listed_for users p) work rest more
-      (λ n i. elim (in_end rest p n (subst (λ z. In n z) e i)) [ inl a ↦ inl a | inr same_one ↦ inr (λ m j. subst (λ z. In m (listed_for users z)) same_one j) ])
+      (λ n i. elim (in_push rest p n (subst (λ z. In n z) e i)) [ inl a ↦ inl a | inr same_one ↦ inr (λ m j. subst (λ z. In m (listed_for users z)) same_one j) ])
       (λ n i. subst (λ z. In n z) (sym e) (In_append_left rest (p ∷ []) n i)) f s
 
   pub popped_below : (number p : ℕ) (changed : List Bool) (work rest : List ℕ) → work ≡ rest ++ p ∷ [] → Spreads users conflicts own chosen size number changed work → p < size
   popped_below number p changed work rest e s = s.waiting p (subst (λ z. In p z) (sym e) (In_append_right rest (p ∷ []) p here))
-
-pub no_work : (work : List ℕ) → length work ≡ 0 → work ≡ []
-no_work [] e = refl
-no_work (x ∷ xs) e = absurd (omega arith)
 
 -- at the end
 pub spread_changed : (from : Interned) (book : Book) (users : List (List ℕ)) (own chosen changed : List Bool) (work : List ℕ) (size : ℕ) → size ≡ length book.rows → work ≡ [] → Sound from book → users ≡ uses_of from book.rows

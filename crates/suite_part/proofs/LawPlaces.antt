@@ -1,14 +1,10 @@
 -- The numbers of some packages among all, and among themselves.
-use Rattle.std.proofs.Common.{◌≡◌, ℕ, zero, suc, ◌+◌, Bool, true, false, cond, eqb, List, [], ◌∷◌, length, map, filter, inl, inr, refl, sym, ap, subst, ◌∙◌, arith}
-use Rattle.std.proofs.lemmas.Bool.{cases_eq, eq-eqb, false≢true, ne_eqb}
+use Rattle.std.proofs.Common.{◌≡◌, ℕ, zero, suc, ◌+◌, Bool, true, false, cond, eqb, List, [], ◌∷◌, length, map, filter, inl, inr, refl, sym, ap, subst, ◌∙◌}
+use Rattle.std.proofs.{Common.{arith}, lemmas.Bool.{cases_eq, eq-eqb, ne_eqb}, lemmas.Simd.{map-map}}
 use Rattle.std.specs.List.{items_where_true, range_with_len}
 use Rattle.row_book.specs.{Flags.{flag}, Parts.{chosen_in, place_in}}
 use Rattle.listed.proofs.Lists.{filter_cases, filter_same}
-use Rattle.row_book.proofs.Numbers.{map_same}
-
-map_map : {A B C : Type 0} (f : B → C) (g : A → B) (xs : List A) → map f (map g xs) ≡ map (λ x. f (g x)) xs
-map_map f g [] = refl
-map_map f g (x ∷ xs) = ap (λ more. f (g x) ∷ more) (map_map f g xs)
+use Rattle.row_book.proofs.{Numbers.{map_same}, Placed.{place_same}}
 
 filter_of_map : {A B : Type 0} (p : B → Bool) (f : A → B) (xs : List A) → filter p (map f xs) ≡ map f (filter (λ x. p (f x)) xs)
 filter_of_map p f [] = refl
@@ -43,7 +39,7 @@ range_next (suc n) k =
 -- packages behind one more
 chosen_behind : (is_up : Bool) (flags : List Bool) (ns : List ℕ) → chosen_in (is_up ∷ flags) (map suc ns) ≡ map (λ n. place_in (is_up ∷ flags) (suc n)) (filter (flag flags) ns)
 chosen_behind is_up flags ns =
-    ap (map (place_in (is_up ∷ flags))) (filter_of_map (flag (is_up ∷ flags)) suc ns) ∙ map_map (place_in (is_up ∷ flags)) suc (filter (flag flags) ns)
+    ap (map (place_in (is_up ∷ flags))) (filter_of_map (flag (is_up ∷ flags)) suc ns) ∙ map-map (place_in (is_up ∷ flags)) suc (filter (flag flags) ns)
 
 chosen_next : (is_up : Bool) (flags : List Bool) (n : ℕ) → chosen_in (is_up ∷ flags) (range_with_len 1 n) ≡ map (λ n. place_in (is_up ∷ flags) (suc n)) (filter (flag flags) (range_with_len 0 n))
 chosen_next is_up flags n = ap (chosen_in (is_up ∷ flags)) (range_next n 0) ∙ chosen_behind is_up flags (range_with_len 0 n)
@@ -57,7 +53,7 @@ numbers_part (b ∷ flags) [] e = absurd (omega (arith, e))
 numbers_part (true ∷ flags) (x ∷ all) e =
     let less : length flags ≡ length all = omega (arith, e) in
     ap (λ ns. 0 ∷ ns)
-    (range_next (length (items_where_true flags all)) 0 ∙ ap (map suc) (numbers_part flags all less) ∙ map_map suc (place_in flags) (filter (flag flags) (range_with_len 0 (length all)))
+    (range_next (length (items_where_true flags all)) 0 ∙ ap (map suc) (numbers_part flags all less) ∙ map-map suc (place_in flags) (filter (flag flags) (range_with_len 0 (length all)))
     ∙ sym (chosen_next true flags (length all)))
 numbers_part (false ∷ flags) (x ∷ all) e =
     let less : length flags ≡ length all = omega (arith, e) in
@@ -71,8 +67,8 @@ items_part g (b ∷ flags) = pick b (items_part (λ n. g (suc n)) flags)
     rest : (is_up : Bool) → items_where_true flags (map (λ n. g (suc n)) (range_with_len 0 (length flags))) ≡ map (λ n. g (suc n)) (filter (flag flags) (range_with_len 0 (length flags))) →
         items_where_true flags (map g (range_with_len 1 (length flags))) ≡ map g (filter (flag (is_up ∷ flags)) (range_with_len 1 (length flags)))
     rest is_up fewer =
-        ap (λ ns. items_where_true flags (map g ns)) (range_next (length flags) 0) ∙ ap (items_where_true flags) (map_map g suc (range_with_len 0 (length flags)))
-        ∙ fewer ∙ sym (map_map g suc (filter (flag flags) (range_with_len 0 (length flags))))
+        ap (λ ns. items_where_true flags (map g ns)) (range_next (length flags) 0) ∙ ap (items_where_true flags) (map-map g suc (range_with_len 0 (length flags)))
+        ∙ fewer ∙ sym (map-map g suc (filter (flag flags) (range_with_len 0 (length flags))))
         ∙ sym (ap (map g) (ap (filter (flag (is_up ∷ flags))) (range_next (length flags) 0) ∙ filter_of_map (flag (is_up ∷ flags)) suc (range_with_len 0 (length flags))))
 
     pick : (is_up : Bool) → items_where_true flags (map (λ n. g (suc n)) (range_with_len 0 (length flags))) ≡ map (λ n. g (suc n)) (filter (flag flags) (range_with_len 0 (length flags))) →
@@ -80,24 +76,11 @@ items_part g (b ∷ flags) = pick b (items_part (λ n. g (suc n)) flags)
     pick true fewer = ap (λ more. g 0 ∷ more) (rest true fewer)
     pick false fewer = rest false fewer
 
--- two packages that are chosen have two numbers
-place_one : (flags : List Bool) (m n : ℕ) → flag flags m ≡ true → flag flags n ≡ true → place_in flags m ≡ place_in flags n → m ≡ n
-place_one [] m n u v e = absurd (false≢true u)
-place_one (b ∷ flags) zero zero u v e = refl
-place_one (true ∷ flags) zero (suc n) u v e = absurd (omega (arith, e))
-place_one (false ∷ flags) zero (suc n) u v e = absurd (false≢true u)
-place_one (true ∷ flags) (suc m) zero u v e = absurd (omega (arith, e))
-place_one (false ∷ flags) (suc m) zero u v e = absurd (false≢true v)
-place_one (true ∷ flags) (suc m) (suc n) u v e =
-    let less : place_in flags m ≡ place_in flags n = omega (arith, e) in
-    ap suc (place_one flags m n u v less)
-place_one (false ∷ flags) (suc m) (suc n) u v e = ap suc (place_one flags m n u v e)
-
 pub place_apart : (flags : List Bool) (m n : ℕ) → flag flags m ≡ true → flag flags n ≡ true → eqb (place_in flags m) (place_in flags n) ≡ eqb m n
 place_apart flags m n u v =
     elim (cases_eq m n) [
       | inl e ↦ eq-eqb (place_in flags m) (place_in flags n) (ap (place_in flags) e) ∙ sym (eq-eqb m n e)
-      | inr ne ↦ ne_eqb (place_in flags m) (place_in flags n) (λ e. ne (place_one flags m n u v e)) ∙ sym (ne_eqb m n ne)
+      | inr ne ↦ ne_eqb (place_in flags m) (place_in flags n) (λ e. ne (place_same flags m n u v e)) ∙ sym (ne_eqb m n ne)
     ]
 
 module _ {S : Type 0} (flags : List Bool) (all : List S) (sized : length flags ≡ length all) where
@@ -116,7 +99,7 @@ module _ {S : Type 0} (flags : List Bool) (all : List S) (sized : length flags �
       map f (range_with_len 0 (length (items_where_true flags all))) ≡ map h (items_where_true flags (map g (range_with_len 0 (length all))))
   table_part f g h same =
       let numbers : List ℕ = range_with_len 0 (length all) in
-      ap (map f) (numbers_part flags all sized) ∙ map_map f (place_in flags) (filter (flag flags) numbers)
+      ap (map f) (numbers_part flags all sized) ∙ map-map f (place_in flags) (filter (flag flags) numbers)
       ∙ map_same (λ n. f (place_in flags n)) (λ n. h (g n)) (filter (flag flags) numbers) (λ n i. same n (filter_cases (flag flags) numbers n i).1)
-      ∙ sym (map_map h g (filter (flag flags) numbers))
+      ∙ sym (map-map h g (filter (flag flags) numbers))
       ∙ sym (ap (map h) (subst (λ n. items_where_true flags (map g (range_with_len 0 n)) ≡ map g (filter (flag flags) (range_with_len 0 n))) sized (items_part g flags)))

@@ -1,9 +1,9 @@
 -- Ids of what is left of clauses, and clauses that stand in order already.
-use Rattle.std.proofs.Common.{◌≡◌, ℕ, zero, suc, ◌<◌, ◌≤◌, Bool, true, false, cond, List, [], ◌∷◌, ◌++◌, length, get_or, filter, replicate, Some, None, inl, inr, refl, sym, ◌∙◌, ap, subst, arith}
-use Rattle.std.proofs.lemmas.Bool.{both_ways, cases_Bool, cases_eq}
+use Rattle.std.proofs.Common.{◌≡◌, ℕ, zero, suc, ◌<◌, ◌≤◌, Bool, true, false, cond, List, [], ◌∷◌, ◌++◌, length, get_or, filter, replicate, Some, None, inl}
+use Rattle.std.proofs.{Common.{inr, refl, sym, ◌∙◌, ap, subst, arith}, lemmas.Bool.{both_ways, cases_Bool, cases_eq}}
 use Rattle.std.proofs.{lemmas.List.{get_or_default, get_or-set_other, get_or-set_same, length-map, length-replicate, length-set}, lemmas.Option.{same_Some}}
 use Rattle.row_book.specs.{Parts.{chosen_in, place_in}, Flags.{flag}}
-use Rattle.std.specs.{Prelude.{Option, Result, Ok, Err, OnOk}, List.{slice_set}}
+use Rattle.std.specs.{Prelude.{Option}, List.{slice_set}}
 use Rattle.listed.specs.Lists.{In}
 use Rattle.listed.proofs.Lists.{In_cases, In_none, filter_short}
 use Rattle.clause_pool.specs.{Interned.{Interned, clause_at, clauses_at, IsPool, Kept}, Lists.{Before, InOrder}}
@@ -141,8 +141,3 @@ clauses_order pool ids f =
     let size : length (clauses_at pool ids) ≡ length ids = clauses_length pool ids in
     subst (λ z. Before z (get_or (clauses_at pool ids) (suc k) [])) (sym (clauses_item pool ids k (omega arith)))
     (subst (λ z. Before (clause_at pool (get_or ids k 0)) z) (sym (clauses_item pool ids (suc k) (omega arith))) (f k (omega arith))))
-
--- what is said of a value that there is, where it is true of every result
-pub on_ok : {A E : Type 0} {P : Type 0} (r : Result A E) → P → OnOk r P
-on_ok (Ok x) p = p
-on_ok (Err e) p = tt

@@ -1,6 +1,7 @@
 -- What packages of a mix that have changed need there.
-use Rattle.std.proofs.Common.{◌≡◌, ℕ, ◌+◌, ◌<◌, ◌⊎◌, Bool, true, false, ◌&&◌, cond, List, [], ◌∷◌, ◌++◌, length, get_or, filter, take, inl, inr, refl, sym, ◌∙◌, ap, subst, arith, append-nil, append_assoc}
-use Rattle.std.proofs.{lemmas.Bool.{and_from, and_parts, both_ways, cases_eq}, lemmas.List.{map-append, take_more}, lemmas.List.Elements.{filter_more}}
+use Rattle.std.proofs.Common.{◌≡◌, ℕ, ◌+◌, ◌<◌, ◌⊎◌, Bool, true, false, ◌&&◌, cond, List, [], ◌∷◌, ◌++◌, length, get_or, filter, take, inl, inr, refl, sym, ◌∙◌}
+use Rattle.std.proofs.{Common.{ap, subst, arith, append-nil, append_assoc}, lemmas.Bool.{and_from, and_parts, both_ways, cases_eq}}
+use Rattle.std.proofs.{lemmas.List.{map-append, take_more}, lemmas.List.Elements.{filter_more}}
 use Rattle.clause_pool.specs.Interned.{Interned, clause_at, clauses_at, row_at}
 use Rattle.listed.specs.Lists.{In, here}
 use Rattle.listed.proofs.Lists.{In_append_cases, In_append_left, In_append_right, In_cases, In_none, filter_cases, filter_from}

@@ -1,6 +1,6 @@
 -- Rows that are made of those of chosen packages, one after another, while the pool grows.
-use Rattle.std.proofs.Common.{◌≡◌, ℕ, ◌<◌, ◌≤◌, ◌+◌, Bool, true, false, List, [], ◌∷◌, ◌++◌, length, get_or, take, map, inl, inr, sym, ◌∙◌, ap, ap₂, subst, arith}
-use Rattle.std.proofs.lemmas.List.{length-map, map-append, take_more}
+use Rattle.std.proofs.Common.{◌≡◌, ℕ, ◌<◌, ◌≤◌, ◌+◌, Bool, true, false, List, [], ◌∷◌, ◌++◌, length, get_or, take, map, inl, inr, sym, ◌∙◌, ap, ap₂, subst}
+use Rattle.std.proofs.{Common.{arith}, lemmas.List.{length-map, map-append, take_more}}
 use Rattle.row_book.specs.{Parts.{chosen_in, part, row_in}, Book.{repository_of, Sound}, Repository.{Repository}, Sound.{SoundRepository}}
 use Rattle.row_book.specs.declared.book.Book.{Book}
 use Rattle.row_book.proofs.{PartSound.{made_count, part_sound}, Placed.{count_in, made_less, made_more}}
@@ -11,20 +11,14 @@ use Rattle.clause_pool.specs.Lists.{InOrder}
 use Rattle.clause_pool.proofs.{Interned.{clauses_kept, kept_along, kept_of_pool, kept_same}, Order.{order_same, ordered_has, ordered_order, ordered_parts}}
 use Rattle.clause_families.specs.Families.{SameClauses}
 use Rattle.clause_families.proofs.Families.{At, of_pool_push, taken_at}
-use Rattle.listed.specs.Lists.{In, Ascending}
-use Rattle.listed.proofs.Lists.{In_append_cases, In_cases, In_none, In_map_cases, filter_short}
+use Rattle.listed.specs.Lists.{In}
+use Rattle.listed.proofs.Lists.{In_append_cases, In_cases, In_none, filter_short}
 use Rattle.suite_part.specs.Left.{IsLeft}
 
 -- a family in order is that of its clauses
 pub same_order : (all family : List (List ℕ)) → SameClauses all family → InOrder family → family ≡ in_row_order all
 same_order all family same order =
     order_same family (in_row_order all) order (ordered_order all) (λ c i. ordered_has all c (same.back c i)) (λ c i. same.there c (ordered_parts all c i))
-
--- the clauses of a pool are ascending
-pub clauses_ascend : (pool : Interned) (ids : List ℕ) → IsPool pool → OfPool pool ids → (c : List ℕ) → In c (clauses_at pool ids) → Ascending c
-clauses_ascend pool ids is of c i =
-    let w : (id : ℕ) × In id ids × (c ≡ clause_at pool id) = In_map_cases (clause_at pool) ids c i in
-    subst Ascending (sym w.2) (is.ascending w.0 (of w.0 w.1))
 
 -- the first clauses of a family are in the pool, which keeps what it held
 pub record FirstInterned (start now : Interned) (done : List (List ℕ)) (ids : List ℕ) : Type 0 where

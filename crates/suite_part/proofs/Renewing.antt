@@ -1,6 +1,6 @@
 -- The rows of a base that becomes that of another part, one after another, while the pool grows.
-use Rattle.std.proofs.Common.{◌≡◌, ℕ, zero, suc, ◌+◌, ◌<◌, List, [], ◌∷◌, ◌++◌, Bool, true, false, length, get_or, map, None, inl, inr, refl, sym, ◌∙◌, ap, subst, arith}
-use Rattle.std.proofs.{lemmas.Bool.{both_ways, cases_Bool, cases_eq}, lemmas.List.{get_or-map, length-map, length_push}}
+use Rattle.std.proofs.Common.{◌≡◌, ℕ, zero, suc, ◌+◌, ◌<◌, List, [], ◌∷◌, ◌++◌, Bool, true, false, length, get_or, map, None, inl, inr, refl, sym, ◌∙◌, ap}
+use Rattle.std.proofs.{Common.{subst, arith}, lemmas.Bool.{both_ways, cases_Bool, cases_eq}, lemmas.List.{get_or-map, length-map, length_push}}
 use Rattle.std.specs.List.{range_with_len}
 use Rattle.clause_pool.specs.Interned.{Interned, clauses_at, ids_at, row_at, IsPool, Kept, OfPool}
 use Rattle.clause_pool.proofs.Interned.{clauses_kept, kept_along, kept_of_pool, kept_same}
@@ -15,7 +15,8 @@ use Rattle.row_book.proofs.{Parts.{part_count}, Placed.{count_in, place_below, p
 use Rattle.suite_part.specs.{declared.{base.Base.{Base}, small.SmallBook.{SmallBook}}, BaseRows.{AreBaseRows}, Bases.{row_of_part, AreChanged, IsBase}}
 use Rattle.suite_part.specs.{Mixes.{AreMixRows, AreRowsOfMix}, Renewed.{AreRenewed, AreRowsOf, IsNewRow, IsRenewed}}
 use Rattle.suite_part.specs.Small.{IsSmallBook, LimitBySmall, RowsBySmall}
-use Rattle.suite_part.proofs.{Followed.{mix_follows_lem}, Parted.{clauses_ascend}}
+use Rattle.suite_part.proofs.Followed.{mix_follows_lem}
+use Rattle.clause_families.proofs.Rewritten.{ids_ascend}
 
 -- one more item
 at_seam : (xs : List ℕ) (x n : ℕ) → n ≡ length xs → row_id (xs ++ x ∷ []) n ≡ x
@@ -151,7 +152,7 @@ rows_sound pool rows {count} is_pool are conflicts paired lists long = record {
       let m : p < length rows = subst (λ z. p < z) (length-map rows (row_at pool)) l in
       let id : In (row_id rows p) rows = In_at rows p 0 m in
       let j : In c (row_at pool (row_id rows p)) = subst (λ cs. In c cs) (get_or-map (row_at pool) rows p 0 [] m) i in
-      (clauses_ascend pool (ids_at pool (row_id rows p)) is_pool (are.clauses (row_id rows p) id) c j, λ n k. subst (λ z. n < z) (sym long) (are.numbers (row_id rows p) id c j n k));
+      (ids_ascend pool (ids_at pool (row_id rows p)) is_pool (are.clauses (row_id rows p) id) c j, λ n k. subst (λ z. n < z) (sym long) (are.numbers (row_id rows p) id c j n k));
   count = paired;
   conflicts = lists;
 }

@@ -1,6 +1,6 @@
 -- The small book is a part of the whole in which rivals have no clauses.
-use Rattle.std.proofs.Common.{◌≡◌, ℕ, ◌<◌, ◌≤◌, ◌+◌, ◌⊎◌, Bool, true, false, cond, List, [], ◌∷◌, ◌++◌, length, map, inl, inr, refl, sym, ◌∙◌, ap, ap₂, subst, arith}
-use Rattle.std.proofs.lemmas.List.{map-append}
+use Rattle.std.proofs.Common.{◌≡◌, ℕ, ◌<◌, ◌≤◌, ◌+◌, ◌⊎◌, Bool, true, false, cond, List, [], ◌∷◌, ◌++◌, length, map, inl, inr, refl, sym, ◌∙◌, ap, ap₂, subst}
+use Rattle.std.proofs.{Common.{arith}, lemmas.List.{map-append}}
 use Rattle.std.specs.List.{range_with_len}
 use Rattle.clause_pool.specs.Interned.{Interned, Kept, row_at}
 use Rattle.clause_pool.proofs.Interned.{row_stays}

@@ -1,19 +1,20 @@
 -- What a small book tells of a mix.
-use Rattle.std.proofs.Common.{◌≡◌, ℕ, ◌<◌, ◌≤◌, Bool, true, false, ◌&&◌, ◌||◌, ltb, List, [], ◌∷◌, length, map, filter, slice_index_or, None, inl, inr, refl, sym, ◌∙◌, ap, ap₂, subst, arith, zero-le}
+use Rattle.std.proofs.Common.{◌≡◌, ℕ, ◌<◌, ◌≤◌, Bool, true, false, ◌&&◌, ◌||◌, ltb, List, [], ◌∷◌, length, map, filter, slice_index_or, None, inl, inr, refl}
+use Rattle.std.proofs.Common.{sym, ◌∙◌, ap, ap₂, subst, arith, zero-le}
 use Rattle.std.proofs.{lemmas.Bool.{and_from, and_parts, both_ways, cases_Bool, cases_eq, cases_lt, lt-ltb, ltb-true}, lemmas.Simd.{map-map}}
 use Rattle.row_book.specs.{Parts.{chosen_in, clauses_in, number_in, numbers_up, part, place_in, row_in}, Flags.{flag}}
 use Rattle.row_book.specs.{Flattening.{core_of, has_conflict, passes, remaining_after, row_length}, Numbers.{numbers}}
 use Rattle.row_book.specs.{Repository.{Repository, clauses_of, conflicts_of}, Sets.{NumSet}, Sound.{OfPackages}, Support.{row}}
 use Rattle.row_book.proofs.Numbered.{number_back, up_ascends, up_count}
 use Rattle.row_book.proofs.Placed.{HasPlace, IsChosen, at_place, chosen_cases, count_in, place_below, place_rises}
-use Rattle.row_book.proofs.Parts.{clauses_through, map_alike, part_count, part_row, row_moved}
+use Rattle.row_book.proofs.Parts.{clauses_through, part_count, part_row, row_moved}
 use Rattle.std.specs.List.{list_any}
 use Rattle.clause_pool.specs.Clauses.{in_row_order}
 use Rattle.clause_pool.proofs.Order.{ordered_parts}
 use Rattle.clause_flatten.specs.Locality.{StandsIn}
 use Rattle.clause_flatten.proofs.{LocalRuns.{flat_is_local_lem, flat_stays, limit_is_local_lem}, Passing.{passes_none}, Rows.{row_is}, Stages.{left_bound}}
 use Rattle.listed.specs.Lists.{In, has, here}
-use Rattle.listed.proofs.{Bools.{same_bool}, Lists.{In_map_cases, In_none, any_cases, any_from, filter_cases, filter_same}}
+use Rattle.listed.proofs.{Bools.{same_bool}, Lists.{In_map_cases, In_none, any_cases, any_from, filter_cases, filter_same, map_alike}}
 use Rattle.suite_part.specs.{Bases.{row_of_part}, Small.{HaveRivals, IsSmall, SmallTells, TellsOfMix}}
 use Rattle.suite_part.proofs.{Backs.{numbers_rise}, Standing.{part_conflict}}
 

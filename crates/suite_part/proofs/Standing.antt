@@ -1,9 +1,8 @@
 -- Packages of a base that stand as they are in another part: their rows there are known, and in the numbers of the book they stay.
 use Rattle.std.proofs.Common.{◌≡◌, ℕ, ◌<◌, ◌≤◌, Bool, true, false, not, ◌&&◌, ◌||◌, ltb, List, length, map, filter, inl, inr, sym, ◌∙◌, ap, subst, arith}
 use Rattle.std.proofs.{lemmas.Bool.{and_from, and_parts, lt-ltb, ltb-true, not-true, not_from_false, or_cases, or_left}, lemmas.Simd.{map-map}}
-use Rattle.row_book.proofs.Parts.{clauses_through, map_alike, part_conflicts, part_count, part_row, row_moved, row_whole}
-use Rattle.row_book.proofs.{Numbered.{number_back, up_ascends, up_count}, PartSound.{part_sound}, BookRepositories.{book_size, sound_repository}}
-use Rattle.row_book.proofs.{Flags.{flag_in}, Repositories.{between, in_packages}}
+use Rattle.row_book.proofs.{Parts.{clauses_through, part_conflicts, part_count, part_row, row_moved, row_whole}, Numbered.{number_back, up_ascends, up_count}}
+use Rattle.row_book.proofs.{PartSound.{part_sound}, BookRepositories.{book_size, sound_repository}, Flags.{flag_in}, Repositories.{between, in_packages}}
 use Rattle.row_book.proofs.Placed.{count_in, at_place, chosen_cases, chosen_from, place_below, place_rises, HasPlace, IsChosen}
 use Rattle.row_book.specs.{Parts.{clauses_in, number_in, numbers_up, chosen_in, part, place_in, row_in}, declared.book.Book.{Book}, Book.{repository_of, Sound}}
 use Rattle.row_book.specs.{Flags.{flag}, Flattening.{core_of, has_conflict, packages, remaining_after, row_length}}
@@ -12,7 +11,7 @@ use Rattle.std.specs.{Prelude.{Option}, List.{list_all, list_any}}
 use Rattle.clause_pool.specs.{Clauses.{in_row_order}, Interned.{Interned, clause_at, clauses_at, row_at}, Lists.{InOrder}}
 use Rattle.clause_pool.proofs.Order.{ordered_parts}
 use Rattle.listed.specs.Lists.{In, there}
-use Rattle.listed.proofs.{Bools.{same_bool}, Lists.{In_has, In_map_cases, all_at, any_cases, any_from, filter_cases, filter_same, has_In}}
+use Rattle.listed.proofs.{Bools.{same_bool}, Lists.{In_has, In_map_cases, all_at, any_cases, any_from, filter_cases, filter_same, has_In, map_alike}}
 use Rattle.clause_flatten.specs.Locality.{StandsIn}
 use Rattle.clause_flatten.proofs.LocalRuns.{flat_is_local_lem, flat_stays, limit_is_local_lem}
 use Rattle.suite_part.specs.{declared.base.Base.{Base}, Bases.{row_of_part, AreChanged, IsBase, StaysAs}, Left.{AreLeft}}

@@ -1,9 +1,13 @@
 -- What is known of the rows of a part, and which packages of it are in another part as they are.
-use Rattle.std.specs.{Prelude.{◌≡◌, ℕ, ◌<◌, ◌-◌, ◌⊎◌, Bool, true, false, List, ◌++◌, None, length, replicate}, List.{list_any}}
+use Rattle.std.specs.Prelude.{◌≡◌, ℕ, ◌<◌, ◌-◌, ◌⊎◌, Bool, true, false, List, ◌++◌, None, length}
+use Rattle.std.specs.{Prelude.{replicate}, List.{list_any}}
 use Rattle.clause_pool.specs.Interned.{Interned, row_at, IsPool}
 use Rattle.listed.specs.Lists.{In}
-use Rattle.row_book.specs.{declared.book.Book.{Book}, Book.{listed_for, repository_of}, Flags.{flag}, Flattening.{core_of, passes}}
-use Rattle.row_book.specs.{Parts.{clauses_in, numbers_up, part, place_in}, Repository.{Repository, clauses_of}, Support.{row}, Uses.{row_id, uses_of}}
+use Rattle.row_book.specs.{declared.book.Book.{Book}, Book.{listed_for, repository_of}}
+use Rattle.row_book.specs.{Flags.{flag}, Flattening.{core_of, passes}}
+use Rattle.row_book.specs.Parts.{clauses_in, numbers_up, part, place_in}
+use Rattle.row_book.specs.{Repository.{Repository, clauses_of}, Support.{row}}
+use Rattle.row_book.specs.Uses.{row_id, uses_of}
 use Rattle.suite_part.specs.declared.base.Base.{Base}
 
 -- the flags of the first packages

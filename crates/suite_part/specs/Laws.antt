@@ -1,7 +1,9 @@
 -- What is known of some packages of an index from what is known of all.
 use Rattle.std.specs.{Prelude.{◌≡◌, Bool, List}, List.{items_where_true}}
-use Rattle.relation_fields.specs.{declared.packages.Home.{Home}, declared.packages.PackageFacts.{PackageFacts}}
-use Rattle.repo_model.specs.{Goals.{packages_named}, declared.goals.Goal.{Goal}, Repository.{suite_repository}}
+use Rattle.relation_fields.specs.declared.packages.Home.{Home}
+use Rattle.relation_fields.specs.declared.packages.PackageFacts.{PackageFacts}
+use Rattle.repo_model.specs.{Goals.{packages_named}, declared.goals.Goal.{Goal}}
+use Rattle.repo_model.specs.Repository.{suite_repository}
 use Rattle.row_book.specs.Parts.{chosen_in, part}
 
 -- the repository of some packages is that part of the repository of all

@@ -1,6 +1,7 @@
 -- for the bodies of this crate alone
 -- What is left of clauses and rows, if its ids are known.
-use Rattle.std.specs.Prelude.{◌≡◌, ℕ, ◌<◌, Bool, true, List, Option, Some, None, length, slice_index_or}
+use Rattle.std.specs.Prelude.{◌≡◌, ℕ, ◌<◌, Bool, true, List, Option, Some, None, length}
+use Rattle.std.specs.Prelude.{slice_index_or}
 use Rattle.clause_pool.specs.Interned.{Interned, clause_at, row_at}
 use Rattle.listed.specs.Lists.{In}
 use Rattle.row_book.specs.{Flags.{flag}, Parts.{chosen_in, row_in}}

@@ -1,10 +1,13 @@
 -- The rows of a mix, which is a mask over all packages of two indexes, in the numbers of all
 -- packages.
 use Rattle.std.specs.Prelude.{◌≡◌, ℕ, Bool, true, false, List, length, map, None}
-use Rattle.class_merge.specs.{Masks.{group_clauses, group_conflicts, AreGrouped}, Classes.{class_in}}
+use Rattle.class_merge.specs.Masks.{group_clauses, group_conflicts, AreGrouped}
+use Rattle.class_merge.specs.Classes.{class_in}
 use Rattle.clause_pool.specs.Interned.{Interned, row_at, IsPool}
-use Rattle.row_book.specs.{declared.book.Book.{Book}, Book.{repository_of}, Flags.{flag}, Flattening.{flat, passes}, Merging.{class_of, quotient}}
-use Rattle.row_book.specs.{Numbers.{numbers}, Parts.{part, place_in}, Repository.{Repository, clauses_of}, Sound.{SoundRepository}}
+use Rattle.row_book.specs.{declared.book.Book.{Book}, Book.{repository_of}, Flags.{flag}}
+use Rattle.row_book.specs.{Flattening.{flat, passes}, Merging.{class_of, quotient}}
+use Rattle.row_book.specs.{Numbers.{numbers}, Parts.{part, place_in}}
+use Rattle.row_book.specs.{Repository.{Repository, clauses_of}, Sound.{SoundRepository}}
 use Rattle.suite_part.specs.{BaseRows.{AreBaseRows}, Bases.{row_of_part}, declared.base.Base.{Base}}
 
 -- rows of all packages in their own numbers; those of packages of the mix are the rows over the

@@ -1,12 +1,16 @@
 -- The small book of packages of a mix that have changed: a part of the whole in which rivals have
 -- no clauses.
-use Rattle.std.specs.{Prelude.{◌≡◌, ℕ, ◌≤◌, Bool, true, false, List, [], ◌∷◌, ◌++◌, None, filter, length}, List.{list_any}}
+use Rattle.std.specs.Prelude.{◌≡◌, ℕ, ◌≤◌, Bool, true, false, List, [], ◌∷◌, ◌++◌, None, filter}
+use Rattle.std.specs.{Prelude.{length}, List.{list_any}}
 use Rattle.clause_pool.specs.Interned.{Interned, row_at}
 use Rattle.listed.specs.Lists.{In}
-use Rattle.row_book.specs.{Flags.{flag}, Flattening.{core_of, passes, remaining_after, row_length}, Repository.{Repository, clauses_of, conflicts_of}}
-use Rattle.row_book.specs.{Sound.{SoundRepository}, Support.{row}, Book.{listed_for, repository_of, Sound}, declared.book.Book.{Book}, Uses.{row_id}}
-use Rattle.row_book.specs.Parts.{clauses_in, numbers_up, part, place_in, row_in}
-use Rattle.suite_part.specs.{Bases.{row_of_part, AreChanged, IsBase}, declared.base.Base.{Base}, declared.small.SmallBook.{SmallBook}}
+use Rattle.row_book.specs.{Flags.{flag}, Flattening.{core_of, passes, remaining_after, row_length}}
+use Rattle.row_book.specs.Repository.{Repository, clauses_of, conflicts_of}
+use Rattle.row_book.specs.{Sound.{SoundRepository}, Support.{row}}
+use Rattle.row_book.specs.{Book.{listed_for, repository_of, Sound}, declared.book.Book.{Book}}
+use Rattle.row_book.specs.{Uses.{row_id}, Parts.{clauses_in, numbers_up, part, place_in, row_in}}
+use Rattle.suite_part.specs.{Bases.{row_of_part, AreChanged, IsBase}, declared.base.Base.{Base}}
+use Rattle.suite_part.specs.declared.small.SmallBook.{SmallBook}
 
 -- Packages of a mix that are needed, with all that they need there. For each that has conflicts
 -- there, there is at least one that it conflicts with.

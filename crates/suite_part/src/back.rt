@@ -1,6 +1,7 @@
 //! Rows of a part in the numbers of the book.
 ghost use Rattle.std.specs.Prelude.{◌≡◌, ◌<◌, ℕ, List, IfOk, OnOk, length};
-ghost use Rattle.clause_pool.specs.{Interned.{clause_at, clauses_at, row_at, IsPool, Kept, OfPool}, Lists.{InOrder}};
+ghost use Rattle.clause_pool.specs.Interned.{clause_at, clauses_at, row_at, IsPool, Kept, OfPool};
+ghost use Rattle.clause_pool.specs.Lists.{InOrder};
 ghost use Rattle.listed.specs.Lists.{Ascending, In};
 ghost use Rattle.row_book.specs.Parts.{clause_in, clauses_in};
 ghost use Rattle.suite_part.specs.Back.{AreBack, IsBack};

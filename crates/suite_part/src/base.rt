@@ -1,14 +1,14 @@
-//! A book with a part that is flattened, so that a part that differs little from it is soon
-//! flattened. Some packages name only each other, are in both parts, and have a conflict in both or
-//! in neither. The rows of these are the same in both parts.
+//! A part of a book that is flattened, so that another part that differs little from it is soon
+//! flattened. Take packages that name only each other and are in both parts. If each has conflicts
+//! in both or in neither, their rows are the same in both parts.
 ghost use Rattle.std.specs.Prelude.{length};
 ghost use Rattle.suite_part.specs.BaseRows.{AreBaseRows};
 
 use crate::changed::{first_chosen, none_flagged, put_changed};
-use crate::chosen::has_one;
 use crate::part::part_of;
 use crate::renewed::{renewed_rows, with_empty};
 use crate::small::{SmallBook, small_book};
+use crate::subset::has_one;
 use class_merge::MaskedRows;
 use clause_flatten::{FlatError, flatten};
 use clause_pool::{Pool, RowId};
@@ -33,13 +33,17 @@ pub struct Base {
 }
 
 impl Base {
-    ghost use Rattle.std.specs.{Prelude.{◌≡◌, ◌<◌, ◌≤◌, ℕ, false, None, IfOk, length}, Bool.{OnFalse}, Option.{ForSome}};
+    ghost use Rattle.std.specs.Prelude.{◌≡◌, ◌<◌, ◌≤◌, ℕ, false, None, IfOk, length};
+    ghost use Rattle.std.specs.{Bool.{OnFalse}, Option.{ForSome}};
     ghost use Rattle.class_merge.specs.Masks.{masked_repository, IsMaskOfRows};
     ghost use Rattle.clause_pool.specs.Interned.{Interned};
     ghost use Rattle.listed.specs.Lists.{In};
-    ghost use Rattle.row_book.specs.{declared.book.Book.{Book}, Book.{listed_for, repository_of, Sound}, Flattening.{flat, passes}, Parts.{part}};
-    ghost use Rattle.row_book.specs.Uses.{uses_of};
-    ghost use Rattle.suite_part.specs.{Bases.{first_flags, first_part, AreChanged, FitsIn, IsBase, StandsAlike}, BaseRows.{AreBaseRows}, Mixes.{AreMixRows}};
+    ghost use Rattle.row_book.specs.declared.book.Book.{Book};
+    ghost use Rattle.row_book.specs.Book.{listed_for, repository_of, Sound};
+    ghost use Rattle.row_book.specs.{Flattening.{flat, passes}, Parts.{part}, Uses.{uses_of}};
+    ghost use Rattle.suite_part.specs.Bases.{first_flags, first_part, AreChanged, FitsIn, IsBase};
+    ghost use Rattle.suite_part.specs.{Bases.{StandsAlike}, BaseRows.{AreBaseRows}};
+    ghost use Rattle.suite_part.specs.Mixes.{AreMixRows};
 
     /// The base of the first `count` packages of a book, without hold. `None` if one of their rows
     /// has more clauses than the limit allows at some stage of flattening.

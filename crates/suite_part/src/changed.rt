@@ -1,13 +1,14 @@
 //! Flags of packages that are not the same in two parts.
-ghost use Rattle.std.specs.Prelude.{◌≡◌, ◌+◌, ◌<◌, ◌≤◌, ℕ, false, not, count_by, IfOk, OnOk, length, replicate};
+ghost use Rattle.std.specs.Prelude.{◌≡◌, ◌+◌, ◌<◌, ◌≤◌, ℕ, false, not, count_by, IfOk, OnOk};
+ghost use Rattle.std.specs.Prelude.{length, replicate};
 ghost use Rattle.listed.specs.Lists.{In};
 ghost use Rattle.suite_part.specs.Bases.{first_flags, Flags};
 
-use crate::chosen::Chosen;
+use crate::subset::Subset;
 use std::alloc::{AllocError, Global};
 
 /// The first `count` of all packages.
-pub(crate) fn first_chosen(alloc: Global, count: u32, size: u32) -> Result<Chosen, AllocError>
+pub(crate) fn first_chosen(alloc: Global, count: u32, size: u32) -> Result<Subset, AllocError>
     requires { count ≤ size }
     ensures { IfOk result (λ made. made.flags.items ≡ first_flags count size) }
 {
@@ -15,7 +16,7 @@ pub(crate) fn first_chosen(alloc: Global, count: u32, size: u32) -> Result<Chose
     for number in 0..size {
         flags.push(number < count)?;
     }
-    Chosen::of(alloc, flags)
+    Subset::of(alloc, flags)
 }
 
 /// Flags that are all down.

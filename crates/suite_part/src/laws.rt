@@ -1,7 +1,9 @@
 //! The laws of parts.
 ghost use Rattle.std.specs.Prelude.{◌≡◌, Bool, List, length};
-ghost use Rattle.relation_fields.specs.{declared.packages.Home.{Home}, declared.packages.PackageFacts.{PackageFacts}};
-ghost use Rattle.suite_part.specs.{Laws.{NamesArePart, PartIsExact}, Mixes.{MergedMix}, Small.{MixFollows, SmallTells}};
+ghost use Rattle.relation_fields.specs.declared.packages.Home.{Home};
+ghost use Rattle.relation_fields.specs.declared.packages.PackageFacts.{PackageFacts};
+ghost use Rattle.suite_part.specs.{Laws.{NamesArePart, PartIsExact}, Mixes.{MergedMix}};
+ghost use Rattle.suite_part.specs.Small.{MixFollows, SmallTells};
 
 /// The repository of some packages of an index is that part of the repository of all.
 pub fn part_is_exact()

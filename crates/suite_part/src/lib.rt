@@ -5,17 +5,17 @@
 mod back;
 mod base;
 mod changed;
-mod chosen;
 mod laws;
 mod part;
 mod renewed;
 mod rows;
 mod small;
+mod subset;
 
 // Some packages of a book, and the book that they make.
 pub use base::Base;
-pub use chosen::Chosen;
 pub use part::part_of;
+pub use subset::Subset;
 
 // Laws.
 pub use laws::{merged_mix, mix_follows, names_are_part, part_is_exact, small_tells};

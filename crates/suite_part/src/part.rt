@@ -1,11 +1,14 @@
 //! The book of some packages of a book.
-ghost use Rattle.std.specs.{Prelude.{◌≡◌, ◌<◌, ℕ, List, length, map, IfOk}, List.{items_where_true}};
-ghost use Rattle.clause_pool.specs.{Compacting.{RowsOf}, Interned.{clauses_at, row_at, IsPool, Kept, OfPool}};
+ghost use Rattle.std.specs.Prelude.{◌≡◌, ◌<◌, ℕ, List, length, map, IfOk};
+ghost use Rattle.std.specs.List.{items_where_true};
+ghost use Rattle.clause_pool.specs.Compacting.{RowsOf};
+ghost use Rattle.clause_pool.specs.Interned.{clauses_at, row_at, IsPool, Kept, OfPool};
 ghost use Rattle.listed.specs.Lists.{Ascending, In};
-ghost use Rattle.row_book.specs.{Book.{repository_of, AreConflicts, Sound}, Parts.{chosen_in, part, row_in}};
+ghost use Rattle.row_book.specs.Book.{repository_of, AreConflicts, Sound};
+ghost use Rattle.row_book.specs.Parts.{chosen_in, part, row_in};
 
-use crate::chosen::Chosen;
 use crate::rows::{LeftRows, row_left};
+use crate::subset::Subset;
 use clause_pool::{NumList, Pool, RowId};
 use listed::Listed;
 use row_book::Book;
@@ -18,7 +21,7 @@ pub fn part_of(
     pool: &mut Pool,
     from: &Pool,
     book: &Book,
-    chosen: &Chosen,
+    chosen: &Subset,
 ) -> Result<Book, AllocError>
     requires pool { IsPool pool.old }
     requires book { Sound from.now book.now }
@@ -42,7 +45,7 @@ fn rows_in(
     pool: &mut Pool,
     from: &Pool,
     book: &Book,
-    chosen: &Chosen,
+    chosen: &Subset,
 ) -> Result<Vec<RowId>, AllocError>
     requires pool { IsPool pool.old }
     requires book { Sound from.now book.now }
@@ -65,7 +68,7 @@ fn rows_in(
 }
 
 // The conflicts of the chosen packages among themselves.
-fn conflicts_in(alloc: Global, book: &Book, chosen: &Chosen) -> Result<Vec<NumList>, AllocError>
+fn conflicts_in(alloc: Global, book: &Book, chosen: &Subset) -> Result<Vec<NumList>, AllocError>
     requires conflicts { AreConflicts book.now.conflicts }
     requires flags { length chosen.now.flags.items ≡ length book.now.rows }
     ensures { IfOk result (λ lists. lists.items ≡ map (chosen_in chosen.now.flags.items)

@@ -3,11 +3,12 @@
 ghost use Rattle.std.specs.{Prelude.{◌≡◌, ◌<◌, IfNone, IfOk, length, true}, Option.{ForSome}};
 ghost use Rattle.clause_pool.specs.Interned.{IsPool, Kept};
 ghost use Rattle.row_book.specs.{Flags.{flag}, Parts.{place_in}};
-ghost use Rattle.suite_part.specs.{BaseRows.{AreBaseRows}, Renewed.{AreRenewed, AreRowsOf, EndsInEmpty, IsNewRow}};
+ghost use Rattle.suite_part.specs.BaseRows.{AreBaseRows};
+ghost use Rattle.suite_part.specs.Renewed.{AreRenewed, AreRowsOf, EndsInEmpty, IsNewRow};
 
 use crate::back::row_back;
-use crate::chosen::Chosen;
 use crate::rows::none_known;
+use crate::subset::Subset;
 use clause_pool::{Pool, RowId};
 use listed::true_numbers;
 use std::alloc::{AllocError, Global};
@@ -39,7 +40,7 @@ pub(crate) fn renewed_rows(
     from: &Pool,
     made: &[RowId],
     changed: &[bool],
-    apart: &Chosen,
+    apart: &Subset,
 ) -> Result<Vec<RowId>, AllocError>
     requires rows { AreBaseRows pool.old rows.now (length apart.now.flags.items) }
     requires few { length apart.now.flags.items < 4294967296 }
@@ -66,7 +67,7 @@ pub(crate) fn renewed_rows(
 }
 
 /// The row of a package in a part, if it has changed and is there.
-fn new_row(made: &[RowId], changed: &[bool], apart: &Chosen, number: usize) -> Option<RowId>
+fn new_row(made: &[RowId], changed: &[bool], apart: &Subset, number: usize) -> Option<RowId>
     requires number { number < length changed.now }
     requires changed { length changed.now ≡ length apart.now.flags.items }
     requires made { length made.now

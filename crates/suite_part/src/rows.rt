@@ -3,14 +3,17 @@
 //! What is left of a clause is made once, and its id is kept for the other rows with the clause.
 //! The same holds of a row, which many packages share. A row whose clauses all stay whole stays in
 //! order, and so do most others; the rest are put in order.
-ghost use Rattle.std.specs.{Prelude.{◌≡◌, ◌<◌, ℕ, Bool, List, None, length, map, slice_index_or, IfOk, OnOk}, Bool.{OnTrue}, List.{list_all}};
-ghost use Rattle.clause_pool.specs.{Clauses.{in_row_order}, Interned.{clause_at, clauses_at, row_at, Interned, IsPool, Kept, OfPool}, Lists.{InOrder}};
+ghost use Rattle.std.specs.Prelude.{◌≡◌, ◌<◌, ℕ, Bool, List, None, length, map, slice_index_or};
+ghost use Rattle.std.specs.{Prelude.{IfOk, OnOk}, Bool.{OnTrue}, List.{list_all}};
+ghost use Rattle.clause_pool.specs.Clauses.{in_row_order};
+ghost use Rattle.clause_pool.specs.Interned.{clause_at, clauses_at, row_at, Interned, IsPool, Kept};
+ghost use Rattle.clause_pool.specs.{Interned.{OfPool}, Lists.{InOrder}};
 ghost use Rattle.listed.specs.Lists.{Ascending, In};
 ghost use Rattle.row_book.specs.{Flags.{flag}, Parts.{chosen_in, row_in}};
 ghost use Rattle.suite_part.specs.Left.{AreAllLeft, AreLeft, IsLeft, IsRowLeft};
 
 use crate::changed::none_flagged;
-use crate::chosen::Chosen;
+use crate::subset::Subset;
 use clause_families::{Clause, put_in_order};
 use clause_pool::{ClauseId, Pool, RowId, is_before};
 use std::alloc::{AllocError, Global};
@@ -73,7 +76,7 @@ pub(crate) fn row_left(
     pool: &mut Pool,
     from: &Pool,
     id: RowId,
-    chosen: &Chosen,
+    chosen: &Subset,
     left: &mut LeftRows,
 ) -> Result<RowId, AllocError>
     requires pool { IsPool pool.old }
@@ -99,7 +102,7 @@ fn row_in(
     pool: &mut Pool,
     from: &Pool,
     row: &[ClauseId],
-    chosen: &Chosen,
+    chosen: &Subset,
     left: &mut LeftClauses,
 ) -> Result<RowId, AllocError>
     requires pool { IsPool pool.old }
@@ -141,7 +144,7 @@ fn left_ids(
     pool: &mut Pool,
     from: &Pool,
     row: &[ClauseId],
-    chosen: &Chosen,
+    chosen: &Subset,
     left: &mut LeftClauses,
 ) -> Result<(), AllocError>
     requires row { OfPool from.now row.now }
@@ -168,7 +171,7 @@ fn left_ids(
 fn left_id(
     pool: &mut Pool,
     from: &Pool,
-    chosen: &Chosen,
+    chosen: &Subset,
     left: &mut LeftClauses,
     id: ClauseId,
 ) -> Result<ClauseId, AllocError>

@@ -1,18 +1,22 @@
-//! The small book of packages of a mix that have changed. It has them and all that they need in the
-//! mix. For each of these that has conflicts there it has one rival, with which it conflicts.
+//! The small book of packages of a mix that have changed. It has these and all that they need in
+//! the mix. If one of all those has conflicts in the mix, the book has a rival of it too: a package
+//! with which it conflicts.
 //!
-//! Elimination is local, and asks of a conflict only whether there is one. A rival has no clauses
-//! there, so the small book passes the limit exactly if the mix does.
-ghost use Rattle.std.specs.Prelude.{◌≡◌, ◌<◌, ◌+◌, ◌&&◌, ◌⊎◌, ℕ, List, cond, count_by, false, filter, length, map, not, true, IfNone, IfOk, OnOk};
+//! Elimination is local, and asks of the conflicts of a package only whether there is one. A rival
+//! has no clauses in the small book. So this passes the limit exactly if the mix does.
+ghost use Rattle.std.specs.Prelude.{◌≡◌, ◌<◌, ◌+◌, ◌&&◌, ◌⊎◌, ℕ, List, cond, count_by, false};
+ghost use Rattle.std.specs.Prelude.{filter, length, map, not, true, IfNone, IfOk, OnOk};
 ghost use Rattle.std.specs.{List.{list_any}, Option.{ForSome}};
 ghost use Rattle.clause_pool.specs.Interned.{clauses_at, OfPool};
 ghost use Rattle.listed.specs.Lists.{In};
-ghost use Rattle.row_book.specs.{Book.{repository_of, AreConflicts, Sound}, Flags.{flag}, Numbers.{numbers}, Parts.{number_in}, Uses.{row_id}};
-ghost use Rattle.suite_part.specs.{Bases.{Flags}, Small.{members_in, AreNeeded, HasRivals, IsSmallBook}};
+ghost use Rattle.row_book.specs.{Book.{repository_of, AreConflicts, Sound}, Flags.{flag}};
+ghost use Rattle.row_book.specs.{Numbers.{numbers}, Parts.{number_in}, Uses.{row_id}};
+ghost use Rattle.suite_part.specs.Bases.{Flags};
+ghost use Rattle.suite_part.specs.Small.{members_in, AreNeeded, HasRivals, IsSmallBook};
 
 use crate::changed::{none_flagged, put_changed};
-use crate::chosen::Chosen;
 use crate::part::part_of;
+use crate::subset::Subset;
 use clause_pool::{ClauseId, Pool, RowId};
 use listed::{Listed, true_numbers};
 use row_book::Book;
@@ -23,7 +27,7 @@ use std::alloc::{AllocError, Global};
 pub(crate) struct SmallBook {
     pub(crate) pool: Pool,
     pub(crate) book: Book,
-    pub(crate) apart: Chosen,
+    pub(crate) apart: Subset,
 }
 
 /// The small book of those packages of a mix that have changed.
@@ -41,7 +45,7 @@ pub(crate) fn small_book(
 {
     let needed = needed_in(alloc, from, book, flags, changed)?;
     let rivals = with_rivals(alloc, book, flags, &needed)?;
-    let apart = Chosen::of(alloc, rivals)?;
+    let apart = Subset::of(alloc, rivals)?;
     let numbers = true_numbers(alloc, &apart.flags)?;
     let mut pool = Pool::new(alloc)?;
     let part = part_of(alloc, &mut pool, from, book, &apart)?;

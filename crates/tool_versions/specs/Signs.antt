@@ -1,6 +1,8 @@
 -- for the bodies of this crate alone
 -- The sign that is written between two texts.
-use Rattle.std.specs.{Prelude.{ℕ, ◌&&◌, List, codes, if◌then◌else◌}, declared.cmp.Ordering.{Ordering}, declared.cmp.Ordering.TheVariants.{Less, Equal, Greater}}
+use Rattle.std.specs.Prelude.{ℕ, ◌&&◌, List, codes, if◌then◌else◌}
+use Rattle.std.specs.declared.cmp.Ordering.{Ordering}
+use Rattle.std.specs.declared.cmp.Ordering.TheVariants.{Less, Equal, Greater}
 use Rattle.deb_version.specs.{Grammar.{is_version}, Order.{version_order}}
 
 abbrev pub order_sign : Ordering → List ℕ

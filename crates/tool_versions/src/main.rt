@@ -3,7 +3,8 @@
 #![tactic(auto)]
 
 ghost use Rattle.std.specs.Prelude.{◌≡◌, ◌&&◌, IfOk, IfErr, false, true};
-ghost use Rattle.deb_version.specs.{Grammar.{is_version}, Order.{version_order}, Refusals.{OnShape}};
+ghost use Rattle.deb_version.specs.{Grammar.{is_version}, Order.{version_order}};
+ghost use Rattle.deb_version.specs.Refusals.{OnShape};
 ghost use Rattle.tool_versions.specs.Signs.{sign_between};
 
 use deb_version::{Version, VersionError};

@@ -1,10 +1,15 @@
 -- Packages under the names that they have and the names that they provide: Debian Policy 7.5.
-use Rattle.std.specs.{Prelude.{◌≡◌, ℕ, Bool, true, ◌⊎◌, List, Option, Some, None, slice_get}, Coded.{Coded-set, coded_bool}, Option.{option_and_then}}
+use Rattle.std.specs.Prelude.{◌≡◌, ℕ, Bool, true, ◌⊎◌, List, Option, Some, None, slice_get}
+use Rattle.std.specs.{Coded.{Coded-set, coded_bool}, Option.{option_and_then}}
 use Rattle.deb_version.specs.Grammar.{is_version}
 use Rattle.listed.specs.Lists.{In}
-use Rattle.relation_fields.specs.{declared.packages.PackageFacts.{PackageFacts}, declared.relations.Atom.{Atom}, declared.relations.Op.{Op}}
-use Rattle.relation_fields.specs.{declared.relations.Op.TheVariants.{Earlier, EarlierEqual, Exactly, LaterEqual, Later}, declared.relations.Provide.{Provide}}
-use Rattle.package_register.specs.{Registers.{numbers_exact, numbers_named, IsFound, IsRegisterOf}, declared.register.Register.{Register}}
+use Rattle.relation_fields.specs.declared.packages.PackageFacts.{PackageFacts}
+use Rattle.relation_fields.specs.{declared.relations.Atom.{Atom}, declared.relations.Op.{Op}}
+use Rattle.relation_fields.specs.declared.relations.Op.TheVariants.{Earlier, EarlierEqual, Exactly}
+use Rattle.relation_fields.specs.declared.relations.Op.TheVariants.{LaterEqual, Later}
+use Rattle.relation_fields.specs.declared.relations.Provide.{Provide}
+use Rattle.package_register.specs.Registers.{numbers_exact, numbers_named, IsFound, IsRegisterOf}
+use Rattle.package_register.specs.declared.register.Register.{Register}
 use Rattle.virtual_provides.specs.declared.names.NameTable.{NameTable}
 
 abbrev pub own_name : PackageFacts → List ℕ

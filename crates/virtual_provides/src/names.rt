@@ -1,9 +1,14 @@
 //! The table of names.
-ghost use Rattle.std.specs.{Prelude.{◌≡◌, ◌<◌, ◌++◌, ◌∷◌, [], List, ℕ, Some, length, filter, IfOk, OnOk}, List.{list_any}, Option.{option_copied}};
+ghost use Rattle.std.specs.Prelude.{◌≡◌, ◌<◌, ◌++◌, ◌∷◌, [], List, ℕ, Some, length, filter, IfOk};
+ghost use Rattle.std.specs.{Prelude.{OnOk}, List.{list_any}, Option.{option_copied}};
 ghost use Rattle.listed.specs.Lists.{In};
-ghost use Rattle.package_register.specs.{Numbers.{numbers_where, passes_at}, Registers.{has_name, is_version_of, Grows, IsFound}};
-ghost use Rattle.relation_fields.specs.{Meeting.{meets}, declared.packages.PackageFacts.{PackageFacts}, declared.relations.Provide.{Provide}};
-ghost use Rattle.virtual_provides.specs.Bearers.{exact_version, own_name, own_version, AreFor, IsBuiltFrom};
+ghost use Rattle.package_register.specs.Numbers.{numbers_where, passes_at};
+ghost use Rattle.package_register.specs.Registers.{has_name, is_version_of, Grows, IsFound};
+ghost use Rattle.relation_fields.specs.Meeting.{meets};
+ghost use Rattle.relation_fields.specs.declared.packages.PackageFacts.{PackageFacts};
+ghost use Rattle.relation_fields.specs.declared.relations.Provide.{Provide};
+ghost use Rattle.virtual_provides.specs.Bearers.{exact_version, own_name, own_version, AreFor};
+ghost use Rattle.virtual_provides.specs.Bearers.{IsBuiltFrom};
 
 use deb_version::Version;
 use listed::sort_once;

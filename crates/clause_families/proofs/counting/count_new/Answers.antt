@@ -1,8 +1,8 @@
-use Rattle.std.proofs.{Common.{◌≡◌, ◌+◌, ◌∙◌, ap, arith, filter, length, refl, subst, sym}, lemmas.List.{take_all}}
+use Rattle.std.proofs.{Common.{◌+◌, ◌∙◌, ap, arith, filter, length, refl, subst, sym}, lemmas.List.{take_all}}
 use Rattle.listed.specs.Lists.{Ascending}
 use Rattle.listed.proofs.Lists.{item_in}
 use Rattle.clause_families.specs.Counting.{is_new}
-use Rattle.clause_families.proofs.{Families.{At, at_item}, CountedRows.{none_more, one_more}}
+use Rattle.clause_families.proofs.Families.{At, at_item, one_more, none_more}
 use Rattle.clause_families.proofs.counting.count_new.Goals as goal
 use Rattle.clause_families.proofs.counting.count_new.Goals.{then-new, else-new}
 

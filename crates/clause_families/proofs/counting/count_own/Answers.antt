@@ -2,7 +2,7 @@ use Rattle.std.proofs.{Common.{◌+◌, ◌∙◌, ap, arith, not, refl, subst, 
 use Rattle.listed.specs.Lists.{Ascending}
 use Rattle.listed.proofs.Lists.{item_in}
 use Rattle.clause_families.specs.Counting.{own_count, unites}
-use Rattle.clause_families.proofs.{Families.{At, at_item}, CountedRows.{none_more, one_more}}
+use Rattle.clause_families.proofs.Families.{At, at_item, one_more, none_more}
 use Rattle.clause_families.proofs.counting.count_own.Goals as goal
 use Rattle.clause_families.proofs.counting.count_own.Goals.{then-not-is_united, else-not-is_united}
 

@@ -3,8 +3,8 @@ use Rattle.clause_pool.specs.{Interned.{clauses_at}, Clauses.{apart_from, in_row
 use Rattle.clause_pool.proofs.Order.{order_filter}
 use Rattle.listed.specs.Lists.{In, Inside, has}
 use Rattle.clause_families.specs.{Counting.{own_count, slices}, Families.{all_unions}}
-use Rattle.clause_families.proofs.CountedRows.{first_apart, first_minimal, first_rise, kept_beside, kept_rise, row_count_is, rw_parts, second_minimal, second_rise}
-use Rattle.clause_families.proofs.Rewritten.{ids_ascend}
+use Rattle.clause_families.proofs.CountedRows.{first_apart, first_minimal, first_rise, kept_beside, kept_rise, row_count_is, rw_parts, second_minimal}
+use Rattle.clause_families.proofs.{CountedRows.{second_rise}, Rewritten.{ids_ascend}}
 use Rattle.clause_families.proofs.counting.count_with_unions.Goals as goal
 
 pub parts_of-requires-clause-kept : goal.parts_of-requires-clause-kept

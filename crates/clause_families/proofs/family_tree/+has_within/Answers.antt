@@ -1,7 +1,8 @@
 use Rattle.std.proofs.{Common.{◌≡◌, ◌<◌, ◌≤◌, ◌∙◌, ap, arith, length, refl, subst, sym, take, ◌+◌}, lemmas.List.{length-take-le}}
 use Rattle.listed.specs.Lists.{Ascending}
 use Rattle.clause_families.specs.{Branches.{any_of}, Inclusion.{is_within}}
-use Rattle.clause_families.proofs.Walked.{Left, behind_fits, behind_is, ends_here, far_fits, fewer_others, found_below, no_nodes, none_wanted, start_within, step_alone, step_beside, step_behind, step_greater}
+use Rattle.clause_families.proofs.Walked.{Left, behind_fits, behind_is, ends_here, far_fits, fewer_others, found_below, no_nodes, none_wanted, start_within}
+use Rattle.clause_families.proofs.Walked.{step_alone, step_beside, step_behind, step_greater}
 use Rattle.clause_families.proofs.family_tree.+has_within.Goals as goal
 
 pub loop-number-init : goal.loop-number-init

@@ -4,7 +4,9 @@ use Rattle.listed.proofs.Lists.{In_has, has_In}
 use Rattle.clause_families.specs.Families.{HoldsOneOf}
 use Rattle.clause_families.proofs.Families.{of_pool_item, useful_less, useful_more}
 use Rattle.clause_families.proofs.useful.useful_beside.Goals as goal
-use Rattle.clause_families.proofs.useful.useful_beside.Goals.{then-not-holds_ascending+then-not-holds_one_of+in_ok-push, else-not-holds_ascending, else-not-holds_ascending-via-then-not-holds_ascending+else-not-holds_one_of, else-not-holds_ascending-via-else-not-holds_ascending}
+use Rattle.clause_families.proofs.useful.useful_beside.Goals.{then-not-holds_ascending+then-not-holds_one_of+in_ok-push, else-not-holds_ascending}
+use Rattle.clause_families.proofs.useful.useful_beside.Goals.{else-not-holds_ascending-via-then-not-holds_ascending+else-not-holds_one_of}
+use Rattle.clause_families.proofs.useful.useful_beside.Goals.{else-not-holds_ascending-via-else-not-holds_ascending}
 
 pub slice-clause-requires : goal.slice-clause-requires
 slice-clause-requires c = of_pool_item c.args.pool.now c.args.others.now c.loop-id.id-index c.id-item.result c.requires c.loop-id-test.true c.id-item.is

@@ -1,9 +1,10 @@
-use Rattle.std.proofs.Common.{◌≡◌, List, ℕ, sym, ◌∙◌, ap, ap₂, filter, length, map, subst}
+use Rattle.std.proofs.Common.{◌≡◌, ◌↔◌, List, ℕ, sym, ◌∙◌, ap, ap₂, filter, length, map, subst}
 use Rattle.clause_pool.specs.Interned.{row_at}
 use Rattle.clause_pool.proofs.Interned.{kept_along}
-use Rattle.row_book.specs.{Numbers.{numbers}, Flags.{flag}, Holders.{ListsFit}, Repository.{Repository}}
-use Rattle.row_book.proofs.Users.{lent_whole}
+use Rattle.row_book.specs.{Book.{repository_of}, Numbers.{numbers}, Flags.{flag}, Holders.{ListsFit}, Repository.{Coinst, Repository}}
+use Rattle.row_book.proofs.{BookRepositories.{sound_repository}, Repositories.{between}, Users.{lent_whole}}
 use Rattle.clause_flatten.specs.{Ready.{table_of, ListsTidy}, TidyRows.{tidied_table}}
+use Rattle.clause_flatten.proofs.Flat.{flat_keeps_lem}
 use Rattle.clause_flatten.proofs.flattening.flatten.Goals as goal
 use Rattle.clause_flatten.proofs.flattening.flatten.Goals.{After-as_slice-2}
 
@@ -46,6 +47,13 @@ returns-clause-flat c =
     let made : List (List (List ℕ)) → List (List ℕ) → Repository = λ xs ys. record { clauses = xs; conflicts = ys } in
     ap₂ made (c.in_ok-made.ensures.rows ∙ ap (table_of c.eliminate_all.new.pool) (whole (goal.at.returns-clause-flat c).After-as_slice-2)) c.in_ok-made.ensures.conflicts
     ∙ c.in_ok-flags.ensures.flat
+
+pub returns-clause-keeps : goal.returns-clause-keeps
+returns-clause-keeps c = λ S.
+    subst (λ F. Coinst (repository_of c.args.pool.now c.args.book.now) S ↔ Coinst F S) (sym (returns-clause-flat c))
+    (flat_keeps_lem c.args.limit c.args.hold (repository_of c.args.pool.now c.args.book.now)
+    (between (repository_of c.args.pool.now c.args.book.now)
+    (sound_repository c.args.pool.now c.args.book.now c.requires.sound.rows.is_pool c.requires.sound)) S)
 
 pub returns-clause-held : goal.returns-clause-held
 returns-clause-held c =

@@ -2,8 +2,7 @@ use Rattle.std.proofs.{Common.{◌≡◌, ◌+◌, ◌∙◌, ap, arith, length,
 use Rattle.clause_pool.specs.Interned.{clauses_at}
 use Rattle.listed.specs.Lists.{has}
 use Rattle.clause_flatten.specs.Holding.{clauses_with}
-use Rattle.clause_flatten.proofs.Counts.{none_more, one_more}
-use Rattle.clause_families.proofs.Families.{At, at_clause, clauses_length, of_pool_item}
+use Rattle.clause_families.proofs.Families.{At, at_clause, clauses_length, of_pool_item, one_more, none_more}
 use Rattle.clause_flatten.proofs.holding.count_holding.Goals as goal
 use Rattle.clause_flatten.proofs.holding.count_holding.Goals.{then-holds_ascending, else-holds_ascending}
 

@@ -1,10 +1,23 @@
-use Rattle.std.proofs.{Common.{◌≡◌, ◌≤◌, ◌++◌, ◌∙◌, arith, ap, cond, length, sym, None, Some}, lemmas.Bool.{le-ltb}}
+use Rattle.std.proofs.{Common.{◌≡◌, ◌≤◌, ◌+◌, ◌*◌, ◌++◌, ◌∙◌, ℕ, List, arith, ap, ap₂, cond, length, sym, None, Some}, lemmas.Bool.{le-ltb}}
 use Rattle.clause_pool.specs.{Interned.{clauses_at}, Clauses.{apart_from, in_row_order, minimal_of}}
 use Rattle.clause_families.specs.{Families.{all_unions}, Unions.{substituted}}
 use Rattle.clause_flatten.specs.Holding.{most_clauses, over_limit}
-use Rattle.clause_flatten.proofs.Counts.{row_count}
+use Rattle.clause_flatten.proofs.Counts.{most_few, row_count}
 use Rattle.clause_families.proofs.{Families.{clauses_length}, Rewritten.{unions_minimal, useful_of_pool, useful_there}}
 use Rattle.clause_flatten.proofs.holding.row_over.Goals as goal
+
+pub returns-then-coarse-from : goal.returns-then-coarse-from
+returns-then-coarse-from c =
+    let own : List (List ℕ) = clauses_at c.args.pool.now c.args.row.now in
+    let theirs : List (List ℕ) = clauses_at c.args.pool.now c.args.others.now in
+    let count : ℕ = length (in_row_order (substituted c.args.user c.args.spent own theirs)) in
+    let size : length own ≡ length c.args.row.now = clauses_length c.args.pool.now c.args.row.now in
+    let their_size : length theirs ≡ length c.args.others.now = clauses_length c.args.pool.now c.args.others.now in
+    let fits : count ≤ most_clauses c.args.spent own (length theirs) = row_count c.args.user c.args.spent own theirs in
+    let few : most_clauses c.args.spent own (length theirs) ≤ length own + length own * length theirs = most_few c.args.spent own (length theirs) in
+    let bound : c.coarse_bound-coarse.result ≡ length own + length own * length theirs =
+    c.coarse_bound-coarse.ensures ∙ sym (ap₂ (λ m n. m + m * n) size their_size) in
+    sym (ap (λ b. cond b (Some count) None) (le-ltb c.args.limit count (omega arith)))
 
 pub returns-then-most-from : goal.returns-then-most-from
 returns-then-most-from c =

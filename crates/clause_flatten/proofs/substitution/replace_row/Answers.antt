@@ -13,11 +13,6 @@ pub replace-requires-clause-old : goal.replace-requires-clause-old
 replace-requires-clause-old c =
     (c.new_row.ensures.kept.rows c.index-rows-user.result (c.requires.fit.of_pool c.index-rows-user.result (item_in c.args.rows.now c.args.user c.index-rows-user.result c.requires.user c.index-rows-user.is))).0
 
-pub replace-requires-clause-old_numbers : goal.replace-requires-clause-old_numbers
-replace-requires-clause-old_numbers c d i n j =
-    subst (λ z. n < z) (sym (ap length c.requires.table ∙ length_uses c.args.pool.now c.args.rows.now))
-    (c.new_row.ensures.fit.numbers c.index-rows-user.result (item_in c.args.rows.now c.args.user c.index-rows-user.result c.requires.user c.index-rows-user.is) d i n j)
-
 pub replace-requires-clause-numbers : goal.replace-requires-clause-numbers
 replace-requires-clause-numbers c d i n j =
     subst (λ z. n < z) (sym (ap length c.requires.table ∙ length_uses c.args.pool.now c.args.rows.now)) (c.in_ok-new.ensures.numbers d i n j)

@@ -4,8 +4,9 @@ use Rattle.listed.specs.Lists.{In}
 use Rattle.row_book.specs.{Uses.{row_id}, Pruning.{is_dead}, Rounds.{IdleStep}, Trail.{trail_meaning}}
 use Rattle.listed.proofs.Lists.{In_at, item_in}
 use Rattle.clause_prune.specs.Tests.{repository_in}
-use Rattle.clause_prune.proofs.{Left.{dead_is, dead_package, dead_steps, interned_row, live_package, live_steps, on_ok}, Passing.{read_zero}}
+use Rattle.clause_prune.proofs.{Left.{dead_is, dead_package, dead_steps, interned_row, live_package, live_steps}, Passing.{read_zero}}
 use Rattle.clause_prune.proofs.pruning.pruned_row.Goals as goal
+use Rattle.listed.proofs.Bools.{on_ok}
 
 pub row-requires : goal.row-requires
 row-requires c = c.requires.fit.of_pool c.index-rows-number.result (item_in c.args.rows.now c.args.number c.index-rows-number.result c.requires.inside c.index-rows-number.is)

@@ -14,7 +14,7 @@ with_newer-report-requires-clause-short g c =
 
 pub returns : goal.returns
 returns g c =
-    let settings = plan_settings c.args.with.budget c.args.with.clause_limit c.args.with.hold in
+    let settings = plan_settings c.args.settings.budget c.args.settings.clause_limit c.args.settings.hold in
     let old = c.args.old.now in
     let read = c.in_ok-older.ensures.index in
     let text = read.text in
@@ -29,7 +29,7 @@ returns g c =
 -- the older text has a fault, or no memory was found
 pub returns-in_err-older : goal.returns-in_err-older
 returns-in_err-older g c =
-    let settings = plan_settings c.args.with.budget c.args.with.clause_limit c.args.with.hold in
+    let settings = plan_settings c.args.settings.budget c.args.settings.clause_limit c.args.settings.hold in
     let old = c.args.old.now in
     let p = err_from_is_err_and c.from_residual.result c.from_residual.ensures.1 in rw (p.1, p.2)
     (c.in_err-older.ensures.stop (old_answer old c.args.new.now settings)
@@ -39,7 +39,7 @@ returns-in_err-older g c =
 -- its suite passes the clause limit, or no memory was found
 pub returns-in_err-view : goal.returns-in_err-view
 returns-in_err-view g c =
-    let settings = plan_settings c.args.with.budget c.args.with.clause_limit c.args.with.hold in
+    let settings = plan_settings c.args.settings.budget c.args.settings.clause_limit c.args.settings.hold in
     let old = c.args.old.now in
     let read = c.in_ok-older.ensures.index in
     let text = read.text in

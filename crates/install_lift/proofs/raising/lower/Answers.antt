@@ -1,9 +1,9 @@
 use Rattle.std.proofs.{Common.{◌≡◌, ◌∙◌, ◌++◌, [], false, length, arith, sym, ap}, lemmas.Grind.{common_steps}}
-use Rattle.std.proofs.lemmas.List.{length_push, length-append, length-map, length-set}
+use Rattle.std.proofs.lemmas.List.{length_push, length-append, length-map, length-set, nil_from_length}
 use Rattle.std.specs.List.{sum_by}
 use Rattle.row_book.specs.{Book.{listed_for, repository_of}, Flags.{flag}}
 use Rattle.row_book.proofs.Flags.{flag_in}
-use Rattle.install_lift.proofs.Lowering.{lowered, pop_out, pop_served, taken_out, list_few, fewer_up, less_work, none_left}
+use Rattle.install_lift.proofs.Lowering.{lowered, pop_out, pop_served, taken_out, list_few, fewer_up, less_work}
 use Rattle.install_lift.proofs.raising.lower.Goals as goal
 
 pub loop-number-preserved-then-not-is_up : goal.loop-number-preserved-then-not-is_up
@@ -38,6 +38,6 @@ loop-number-preserved c = record {
 
 pub returns : goal.returns
 returns c =
-    let e : c.loop-number.work.items ≡ [] = grind (arith, common_steps, none_left) in
+    let e : c.loop-number.work.items ≡ [] = grind (arith, common_steps, nil_from_length) in
     lowered (repository_of c.args.pool.now c.args.book.now) (flag c.args.set.now) (flag c.loop-number.more) (length c.args.book.now.rows) c.args.table.now c.loop-number.work.items (sym (length-map c.args.book.now.rows _)) e
     c.loop-number.invariant.lowering

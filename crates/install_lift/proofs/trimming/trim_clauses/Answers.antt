@@ -3,8 +3,10 @@ use Rattle.clause_pool.specs.Interned.{clause_at}
 use Rattle.row_book.specs.{Book.{repository_of}, Flags.{flag}}
 use Rattle.listed.proofs.Lists.{In_at}
 use Rattle.install_lift.specs.Waiting.{is_waiting, waiting_count}
-use Rattle.install_lift.proofs.Steps.{row_first, size_of, chosen_hits, opened, open_at, open_none, trimming_more, trimming_end, chosen_below, goals_more, fewer_down}
-use Rattle.install_lift.proofs.Waits.{hit_before_any, hit_before_put, in_book, met_below, met_all, met_one, met_put, within_less, within_put, met_outside, less_to_do}
+use Rattle.install_lift.proofs.Steps.{row_first, size_of, chosen_hits, opened, open_at, open_none, trimming_more, trimming_end, chosen_below, goals_more}
+use Rattle.install_lift.proofs.Steps.{fewer_down}
+use Rattle.install_lift.proofs.Waits.{hit_before_any, hit_before_put, in_book, met_below, met_all, met_one, met_put, within_less, within_put, met_outside}
+use Rattle.install_lift.proofs.Waits.{less_to_do}
 use Rattle.install_lift.proofs.trimming.trim_clauses.Goals as goal
 
 pub loop-number-init : goal.loop-number-init

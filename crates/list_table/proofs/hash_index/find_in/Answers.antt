@@ -2,7 +2,8 @@ use Rattle.std.proofs.Common.{◌≡◌, ◌<◌, ◌+◌, ◌-◌, [], length, 
 use Rattle.list_table.specs.Index.{home, Reaches, place_at}
 use Rattle.list_table.proofs.Index.{home_below, Reaches_first, Reaches_next, Reaches_turn, Passed_none, Passed_more, none_at_end, none_at_empty}
 use Rattle.list_table.proofs.hash_index.find_in.Goals as goal
-use Rattle.list_table.proofs.hash_index.find_in.Goals.{then-place-size, else-place-size, else-kept-wanted-via-then-kept-wanted+else-same, else-kept-wanted-via-else-kept-wanted}
+use Rattle.list_table.proofs.hash_index.find_in.Goals.{then-place-size, else-place-size, else-kept-wanted-via-then-kept-wanted+else-same}
+use Rattle.list_table.proofs.hash_index.find_in.Goals.{else-kept-wanted-via-else-kept-wanted}
 
 pub loop-init : goal.loop-init
 loop-init g c =

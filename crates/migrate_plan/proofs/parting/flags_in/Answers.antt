@@ -1,7 +1,7 @@
 use Rattle.std.proofs.Common.{◌++◌, arith, false, get_or, refl}
 use Rattle.std.specs.List.{items_where_true}
 use Rattle.repo_model.proofs.Selected.{chosen_all, chosen_next, left_out}
-use Rattle.migrate_plan.proofs.WholeMixes.{whatever_else}
+use Rattle.migrate_plan.proofs.BothMixes.{whatever_else}
 use Rattle.migrate_plan.proofs.parting.flags_in.Goals as goal
 
 pub loop-place-preserved : goal.loop-place-preserved

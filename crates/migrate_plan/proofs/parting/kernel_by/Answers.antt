@@ -6,12 +6,12 @@ use Rattle.migrate_plan.proofs.parting.kernel_by.Goals as goal
 
 pub returns-in-Some-clause-kernel : goal.returns-in-Some-clause-kernel
 returns-in-Some-clause-kernel c =
-    let whole = c.args.whole.now in
-    let view = whole.old.now.view.now in
+    let both = c.args.both.now in
+    let view = both.old.now.view.now in
     let flags = c.args.flags.now in
-    let W = repository_of whole.pool whole.book in
+    let W = repository_of both.pool both.book in
     held_made view.limit view.kernel.hold W flags c.in-Some.made
-    (part_sound W flags (sound_repository whole.pool whole.book c.requires.book.rows.is_pool c.requires.book) (c.requires.flags ∙ sym (book_size whole.pool whole.book)))
+    (part_sound W flags (sound_repository both.pool both.book c.requires.book.rows.is_pool c.requires.book) (c.requires.flags ∙ sym (book_size both.pool both.book)))
     (rw c.in-Some.is at c.in_ok-made.ensures.kernel)
 
 pub returns-in-Some-clause-known : goal.returns-in-Some-clause-known

@@ -9,6 +9,6 @@ add_to_each-answer-requires c = λ n h. c.requires.within n (sym (c.in_ok-after.
 pub returns-clause-ok : goal.returns-clause-ok
 returns-clause-ok c =
     on_ok_weaker c.add_to_each-answer.result
-    (λ f n a. subst (λ held. IsListOf (λ m. has (list_in c.args.table.now n) m || (held && eqb m c.args.number)) (list_in c.add_to_each-answer.new.table n))
+    (λ f n a. subst (λ held. IsListOf (λ m. has (list_in c.args.table.now n) m || (held && eqb m c.args.package)) (list_in c.add_to_each-answer.new.table n))
     (ap (λ xs. has xs n) c.as_slice.ensures.value ∙ c.in_ok-after.ensures n) (f n a))
     c.add_to_each-answer.ensures.ok

@@ -9,4 +9,4 @@ pub put_pair_lines-requires : goal.put_pair_lines-requires
 put_pair_lines-requires c = rw c.deref-2.ensures.value c.in_ok-bad.ensures
 
 pub returns : goal.returns
-returns c = λ v w are. c.in_ok-put_pair_lines.ensures v w are ∙ ap (λ z. z ++ told_pairs v w c.args.sides.now.part.names.items) (c.in_ok-lines.ensures v w are)
+returns c = λ v w are. c.in_ok-put_pair_lines.ensures v w are ∙ ap (λ z. z ++ told_pairs v w c.args.sides.now.common.names.items) (c.in_ok-lines.ensures v w are)

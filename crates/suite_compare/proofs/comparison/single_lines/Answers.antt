@@ -16,9 +16,9 @@ verdict_of-after-requires-clause-kind c = rw c.deref-in-loop-place.ensures.value
 
 pub loop-place-preserved : goal.loop-place-preserved
 loop-place-preserved c = λ v w are.
-    behind_more (λ a. single_line a (finding (v (a ∷ [])) (w (a ∷ [])))) c.args.sides.now.part.names.items c.loop-place.place [] [] c.loop-place.lines c.push_single.new.lines _ (omega arith) c.in_ok-push_single.ensures (c.loop-place.invariant v w are)
+    behind_more (λ a. single_line a (finding (v (a ∷ [])) (w (a ∷ [])))) c.args.sides.now.common.names.items c.loop-place.place [] [] c.loop-place.lines c.push_single.new.lines _ (omega arith) c.in_ok-push_single.ensures (c.loop-place.invariant v w are)
     (ap₂ single_line (sym (rw c.deref-in-loop-place-2.ensures.value at c.name_at.ensures)) (ap₂ finding (are.old.single c.loop-place.place (omega arith) ∙ sym (rw c.deref.ensures.value at c.verdict_of-before.ensures)) (are.new.single c.loop-place.place (omega arith) ∙ sym (rw c.deref-in-loop-place.ensures.value at c.verdict_of-after.ensures))
     ∙ sym c.finding_of-finding.ensures))
 
 pub returns : goal.returns
-returns c = λ v w are. c.loop-place.invariant v w are ∙ ap (told_singles v w) (take_all c.loop-place.place c.args.sides.now.part.names.items (omega arith))
+returns c = λ v w are. c.loop-place.invariant v w are ∙ ap (told_singles v w) (take_all c.loop-place.place c.args.sides.now.common.names.items (omega arith))

@@ -4,4 +4,4 @@ use Rattle.suite_compare.specs.Comparing.{told_singles, AreBothVerdicts}
 use Rattle.suite_compare.proofs.comparison.single_lines.Given as goal
 
 abbrev pub invariant-loop-place : goal.invariant-loop-place
-invariant-loop-place l = (v w : List (List ℕ) → Verdict) → AreBothVerdicts l.sides v w → l.lines ≡ told_singles v w (take l.place l.sides.part.names.items)
+invariant-loop-place l = (v w : List (List ℕ) → Verdict) → AreBothVerdicts l.sides v w → l.lines ≡ told_singles v w (take l.place l.sides.common.names.items)

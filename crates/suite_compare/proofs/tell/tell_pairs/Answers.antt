@@ -9,10 +9,10 @@ pub verdict_of-requires-clause-kind : goal.verdict_of-requires-clause-kind
 verdict_of-requires-clause-kind c = rw c.deref.ensures.value ((both_new c.args.sides.now).within c.loop-place.place (omega arith))
 
 pub loop-place-preserved-then-not-is_yes : goal.loop-place-preserved-then-not-is_yes
-loop-place-preserved-then-not-is_yes c = kept_skip (told_after c.as_slice-names.result.now c.args.table.now.joints.of.items c.args.partners.now) (goes_alone c.args.sides.now.side) c.args.lines.now c.loop-place.lines c.loop-place.place
+loop-place-preserved-then-not-is_yes c = kept_skip (told_after c.as_slice-names.result.now c.args.table.now.kind_pairs.pair_of.items c.args.partners.now) (goes_alone c.args.sides.now.side) c.args.lines.now c.loop-place.lines c.loop-place.place
     (ap is_yes (sym (rw c.deref.ensures.value at c.verdict_of.ensures)) ∙ sym c.is_yes.ensures ∙ c.if-not-is_yes.true) c.loop-place.invariant
 
 pub loop-place-preserved : goal.loop-place-preserved
-loop-place-preserved c = kept_more (told_after c.as_slice-names.result.now c.args.table.now.joints.of.items c.args.partners.now) (goes_alone c.args.sides.now.side) c.args.lines.now c.loop-place.lines c.tell_later.new.lines c.loop-place.place
+loop-place-preserved c = kept_more (told_after c.as_slice-names.result.now c.args.table.now.kind_pairs.pair_of.items c.args.partners.now) (goes_alone c.args.sides.now.side) c.args.lines.now c.loop-place.lines c.tell_later.new.lines c.loop-place.place
     (ap is_yes (sym (rw c.deref.ensures.value at c.verdict_of.ensures)) ∙ sym c.is_yes.ensures ∙ c.if-not-is_yes.false)
-    (c.in_ok-tell_later.ensures ∙ ap (λ z. c.loop-place.lines ++ flat_map (told_pair c.as_slice-names.result.now z c.loop-place.place) (filter (ltb c.loop-place.place) z.told)) (c.partners_at.ensures ∙ ap (partners_at c.args.partners.now) (rw c.deref-in-loop-place.ensures.value at c.place_at-joint.ensures))) c.loop-place.invariant
+    (c.in_ok-tell_later.ensures ∙ ap (λ z. c.loop-place.lines ++ flat_map (told_pair c.as_slice-names.result.now z c.loop-place.place) (filter (ltb c.loop-place.place) z.told)) (c.partners_at.ensures ∙ ap (partners_at c.args.partners.now) (rw c.deref-in-loop-place.ensures.value at c.place_at-kind_pair.ensures))) c.loop-place.invariant

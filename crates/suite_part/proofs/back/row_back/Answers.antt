@@ -2,8 +2,9 @@ use Rattle.std.proofs.{Common.{◌∙◌, ap, subst, sym}, lemmas.Result.{IfOk-w
 use Rattle.clause_pool.specs.{Interned.{clauses_at, OfPool}, Lists.{InOrder}}
 use Rattle.clause_pool.proofs.Interned.{kept_along}
 use Rattle.clause_families.proofs.Families.{row_interned}
-use Rattle.suite_part.proofs.{Backs.{back_kept, clauses_in_order}, Lefts.{on_ok}}
+use Rattle.suite_part.proofs.Backs.{back_kept, clauses_in_order}
 use Rattle.suite_part.proofs.back.row_back.Goals as goal
+use Rattle.listed.proofs.Bools.{on_ok}
 
 pub intern_row-requires-clause-in_order : goal.intern_row-requires-clause-in_order
 intern_row-requires-clause-in_order c =

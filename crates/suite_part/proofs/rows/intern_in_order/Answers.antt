@@ -5,8 +5,9 @@ use Rattle.clause_pool.specs.Interned.{clauses_at, OfPool}
 use Rattle.clause_pool.proofs.Interned.{kept_along}
 use Rattle.clause_families.specs.Families.{SameClauses}
 use Rattle.clause_families.proofs.Families.{row_interned}
-use Rattle.suite_part.proofs.Parted.{clauses_ascend, same_order}
+use Rattle.suite_part.proofs.Parted.{same_order}
 use Rattle.suite_part.proofs.rows.intern_in_order.Goals as goal
+use Rattle.clause_families.proofs.Rewritten.{ids_ascend}
 
 pub returns-then-are_in_order-clause-row : goal.returns-then-are_in_order-clause-row
 returns-then-are_in_order-clause-row c =
@@ -16,7 +17,7 @@ returns-then-are_in_order-clause-row c =
 
 pub ids_of-requires : goal.ids_of-requires
 ids_of-requires c = λ d i.
-    clauses_ascend c.args.pool.now c.args.ids.now c.requires.pool c.requires.of_pool d
+    ids_ascend c.args.pool.now c.args.ids.now c.requires.pool c.requires.of_pool d
     (subst (λ z. In d z) c.in_ok-family.ensures (c.put_in_order.ensures.same.back d (subst (λ z. In d z) c.as_slice.ensures.value i)))
 
 pub returns-clause-row : goal.returns-clause-row

@@ -3,9 +3,10 @@ use Rattle.clause_pool.specs.{Interned.{clauses_at, OfPool}, Lists.{InOrder}}
 use Rattle.clause_pool.proofs.Order.{ordered_order}
 use Rattle.clause_families.proofs.Families.{row_interned}
 use Rattle.row_book.specs.Parts.{chosen_in, row_in}
-use Rattle.suite_part.proofs.{Lefts.{left_kept, on_ok}, Standing.{whole_row}}
+use Rattle.suite_part.proofs.{Lefts.{left_kept}, Standing.{whole_row}}
 use Rattle.suite_part.proofs.rows.row_in.Goals as goal
 use Rattle.suite_part.proofs.rows.row_in.Goals.{Then-are_whole}
+use Rattle.listed.proofs.Bools.{on_ok}
 
 -- the ids of a row of which no clause loses a package
 ids_whole : (c : Then-are_whole) → clauses_at c.left_ids.new.pool c.as_slice-ids.result.now ≡ row_in c.args.chosen.now.flags.items (clauses_at c.args.from.now c.args.row.now)

@@ -4,9 +4,10 @@ use Rattle.row_book.proofs.Users.{lent_whole}
 use Rattle.row_book.specs.Uses.{row_id}
 use Rattle.clause_pool.specs.Interned.{clauses_at, row_at}
 use Rattle.suite_part.specs.{Bases.{Flags}, Small.{members_in}}
-use Rattle.suite_part.proofs.{Bases.{no_work}, Needs.{needs_all, needs_first, needs_members, needs_other, waiting_below}}
+use Rattle.suite_part.proofs.Needs.{needs_all, needs_first, needs_members, needs_other, waiting_below}
 use Rattle.suite_part.proofs.small.needed_in.Goals as goal
 use Rattle.suite_part.proofs.small.needed_in.Goals.{then-are_both+in_ok-put_changed, else-are_both}
+use Rattle.std.proofs.lemmas.List.{nil_from_length}
 
 pub put_changed-requires : goal.put_changed-requires
 put_changed-requires c = λ n i.
@@ -81,5 +82,5 @@ loop-number-2-preserved c =
 
 pub returns : goal.returns
 returns c =
-    let none : c.loop-number-2.work.items ≡ [] = grind (arith, common_steps, no_work) in
+    let none : c.loop-number-2.work.items ≡ [] = grind (arith, common_steps, nil_from_length) in
     needs_all c.args.from.now c.args.book.now c.args.flags.now c.args.changed.now (length c.args.book.now.rows) c.loop-number-2.needed.items c.loop-number-2.work.items refl c.requires.flags none c.loop-number-2.invariant

@@ -1,8 +1,9 @@
 use Rattle.std.proofs.Common.{◌≡◌, ◌<◌, ◌+◌, ◌∙◌, [], List, Some, length, sym, subst, arith}
 use Rattle.listed.specs.Lists.{Ascending, In}
 use Rattle.kernel_text.specs.{declared.member.Member.{Member}, Images.{image_of, unknown_goal}, Members.{IsMemberRegister}}
-use Rattle.kernel_text.proofs.GoalImages.{found_unknown, image_ascending, known_goal, no_image, none_there, one_image, some_image, some_there}
+use Rattle.kernel_text.proofs.GoalImages.{found_unknown, image_ascending, known_goal, no_image, one_image, some_image, some_there}
 use Rattle.kernel_text.proofs.stored.StoredKernel.images.Goals as goal
+use Rattle.listed.proofs.Lists.{none_listed}
 
 -- the register is that of the members
 pub image_of-requires : goal.image_of-requires
@@ -15,7 +16,7 @@ returns-then-is_empty-clause-unknown c =
     let size = length c.args.self.now.book.rows in
     let inside : (m : Member) → In m members → m.class < size = λ m i. c.args.self.now.inside m (subst (In m) c.as_slice-members.ensures i) in
     let none : image_of members size c.index-goals-place.result ≡ [] =
-    sym (c.as_slice-classes.ensures.value ∙ c.in_ok-image.ensures size inside) ∙ none_there c.as_slice-classes.result.now (sym c.if-is_empty.ensures) in
+    sym (c.as_slice-classes.ensures.value ∙ c.in_ok-image.ensures size inside) ∙ none_listed c.as_slice-classes.result.now (sym c.if-is_empty.ensures) in
     subst (λ ms. unknown_goal ms c.args.goals.now ≡ Some (c.loop-place.place + 1)) c.as_slice-members.ensures
     (found_unknown members c.args.goals.now c.loop-place.place c.index-goals-place.result (omega arith) c.index-goals-place.is c.loop-place.invariant.ahead
     (no_image members size inside c.index-goals-place.result none))

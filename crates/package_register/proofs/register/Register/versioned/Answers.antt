@@ -1,7 +1,8 @@
 use Rattle.std.proofs.Common.{List, ℕ, ◌∙◌, ◌++◌, inl, refl, sym}
 use Rattle.package_register.specs.Registers.{is_version_of, numbers_named}
-use Rattle.package_register.proofs.{Numbered.{found_among, found_none, none_in}, Registered.{versioned_all}}
+use Rattle.package_register.proofs.{Numbered.{found_among, found_none}, Registered.{versioned_all}}
 use Rattle.package_register.proofs.register.Register.versioned.Goals as goal
+use Rattle.listed.proofs.Lists.{none_listed}
 
 pub returns-then-is_empty : goal.returns-then-is_empty
 returns-then-is_empty g c =
@@ -10,7 +11,7 @@ returns-then-is_empty g c =
     let numbers : List ℕ = numbers_named c.args.self.now name in
     found_none (is_version_of g.T.Named.name_of g.T.Named.version_of name version) c.args.items.now numbers c.new.result.items
     (versioned_all g.T.Named.name_of g.T.Named.version_of c.args.items.now c.args.self.now c.requires name version numbers (inl refl))
-    (sym c.bearers.ensures ∙ none_in c.bearers.result.now (sym c.is_empty.ensures ∙ c.if-is_empty.true)) c.new.ensures.items
+    (sym c.bearers.ensures ∙ none_listed c.bearers.result.now (sym c.is_empty.ensures ∙ c.if-is_empty.true)) c.new.ensures.items
 
 pub returns : goal.returns
 returns g c =

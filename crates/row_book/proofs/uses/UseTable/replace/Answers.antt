@@ -1,4 +1,4 @@
--- The numbers of what the row lost and gained are held by the old row or by the new one, so they are in the table.
+-- The numbers of what the row gained are held by the new row, so they are in the table.
 use Rattle.std.proofs.{Common.{◌≡◌, ◌<◌, ◌++◌, ◌∙◌, ap, sym, subst, length, take, drop}, lemmas.List.{length-map}, lemmas.Result.{on_err_weaker, on_ok_weaker}}
 use Rattle.std.specs.List.{slice_set}
 use Rattle.clause_pool.specs.Interned.{ids_at}
@@ -11,17 +11,6 @@ exchange-answer-requires-clause-lost_of c = λ id i. c.row.ensures.of_pool id (c
 
 pub exchange-answer-requires-clause-gained_of : goal.exchange-answer-requires-clause-gained_of
 exchange-answer-requires-clause-gained_of c = λ id i. c.row-2.ensures.of_pool id (c.in_ok-changes.ensures.gained.part id i)
-
-pub exchange-answer-requires-clause-lost : goal.exchange-answer-requires-clause-lost
-exchange-answer-requires-clause-lost c = λ n h.
-    let size : length c.args.self.now ≡ length c.as_mut_slice-table.result.now =
-    ap length (sym c.self.view_is) ∙ length-map c.self.inside.users.items (λ v. v.items) ∙ ap length (sym c.as_mut_slice-table.ensures.value) in
-    let lost : HoldsDifference (ids_at c.args.pool.now c.args.old) (ids_at c.args.pool.now c.args.new) c.in_ok-changes.changes.lost.items =
-    subst (λ xs. HoldsDifference xs (ids_at c.args.pool.now c.args.new) c.in_ok-changes.changes.lost.items) c.row.ensures.lent
-    (subst (λ xs. HoldsDifference c.row.result.now xs c.in_ok-changes.changes.lost.items) c.row-2.ensures.lent c.in_ok-changes.ensures.lost) in
-    subst (λ k. n < k) size
-    (held_below c.args.pool.now c.args.old (length c.args.self.now) n c.requires.old_numbers
-    (difference_held c.args.pool.now (ids_at c.args.pool.now c.args.old) (ids_at c.args.pool.now c.args.new) c.in_ok-changes.changes.lost.items n lost h))
 
 pub exchange-answer-requires-clause-gained : goal.exchange-answer-requires-clause-gained
 exchange-answer-requires-clause-gained c = λ n h.
@@ -47,7 +36,7 @@ returns-clause-ok c =
     subst (λ xs. HoldsDifference xs (ids_at c.args.pool.now c.args.old) c.in_ok-changes.changes.gained.items) c.row-2.ensures.lent
     (subst (λ xs. HoldsDifference c.row-2.result.now xs c.in_ok-changes.changes.gained.items) c.row.ensures.lent c.in_ok-changes.ensures.gained) in
     on_ok_weaker c.exchange-answer.result
-    (λ f rows l o e. subst (λ t. lists_in t ≡ uses_of c.args.pool.now (slice_set rows c.args.number c.args.new)) (sym whole)
+    (λ f rows l o e. subst (λ t. lists_in t ≡ uses_of c.args.pool.now (slice_set rows c.args.package c.args.new)) (sym whole)
     (f rows l (subst (λ id. HoldsDifference (ids_at c.args.pool.now id) (ids_at c.args.pool.now c.args.new) c.in_ok-changes.changes.lost.items) (sym o) lost)
     (subst (λ id. HoldsDifference (ids_at c.args.pool.now c.args.new) (ids_at c.args.pool.now id) c.in_ok-changes.changes.gained.items) (sym o) gained)
     (ap lists_in c.as_mut_slice-table.ensures.value ∙ c.self.view_is ∙ e)))

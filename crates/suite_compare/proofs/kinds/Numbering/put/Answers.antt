@@ -7,6 +7,6 @@ returns-in-Some c = λ keys n is so. numbered_old keys n c.in-Some.number c.args
 
 pub returns : goal.returns
 returns c = λ keys n is so.
-    let e : c.len.result ≡ n = omega (arith, c.len.ensures, c.args.self.now.of.ok.0, so.each.long) in
+    let e : c.len.result ≡ n = omega (arith, c.len.ensures, c.args.self.now.number_of.ok.0, so.each.long) in
     numbered_new keys n c.in_ok-number.number c.args.key.now _ _ _ _ is c.in_ok-push-3.ensures.items so _ _ c.in_ok-number.ensures.place c.in_ok-number.ensures.ok
     (c.in_ok-push-2.ensures.items ∙ ap (λ z. c.args.self.now.firsts.items ++ z ∷ []) e)

@@ -3,9 +3,10 @@ use Rattle.listed.proofs.Lists.{In_cases, In_none}
 use Rattle.row_book.specs.Book.{listed_for}
 use Rattle.row_book.proofs.Users.{lent_whole}
 use Rattle.suite_part.specs.Bases.{Flags}
-use Rattle.suite_part.proofs.Bases.{no_work, popped_below, spread_changed, spread_first, spread_same, spread_users}
+use Rattle.suite_part.proofs.Bases.{popped_below, spread_changed, spread_first, spread_same, spread_users}
 use Rattle.suite_part.proofs.base.Base.changed_by.Goals as goal
 use Rattle.suite_part.proofs.base.Base.changed_by.Goals.{then-differs+in_ok-put_changed, else-differs}
+use Rattle.std.proofs.lemmas.List.{nil_from_length}
 
 pub put_changed-requires : goal.put_changed-requires
 put_changed-requires c = λ n i.
@@ -59,6 +60,6 @@ returns-clause-size c = c.loop-number-2.invariant.long
 
 pub returns-clause-changed : goal.returns-clause-changed
 returns-clause-changed c = λ from sound are.
-    let none : c.loop-number-2.work.items ≡ [] = grind (arith, common_steps, no_work) in
+    let none : c.loop-number-2.work.items ≡ [] = grind (arith, common_steps, nil_from_length) in
     spread_changed from c.args.book.now c.args.self.now.users c.args.self.now.flags.items c.args.flags.now c.loop-number-2.changed.items c.loop-number-2.work.items (length c.args.book.now.rows) refl none sound are
     c.loop-number-2.invariant

@@ -1,1 +1,0 @@
-use Rattle.clause_families.proofs.counting.parts_of.Goals as goal

@@ -1,0 +1,1 @@
+use Rattle.clause_families.proofs.splitting.parts_of.Goals as goal

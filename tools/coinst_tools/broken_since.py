@@ -48,6 +48,7 @@ class Comparing:
         self.now, self.then = keys_by_line(report), keys_by_line(earlier)
         self.common = [place for place in self.now if place in self.then]
         self.allowed = {one.architecture: {tuple(line) for line in one.allowed_lines} for one in report.architectures}
+        self.open = {one.architecture: {tuple(line) for line in one.open} for one in report.architectures}
         self.new: dict[str, OnLines] = collections.defaultdict(dict)
         self.gone: dict[str, OnLines] = collections.defaultdict(dict)
         self.new_sets: dict[str, dict[str, int]] = collections.defaultdict(dict)
@@ -98,7 +99,9 @@ class Comparing:
             return "allowed"
         if not self.both[place].issuperset(line):
             return "left"
-        return "broken_alone" if len(line) == 2 and any((one,) in now for one in line) else "mended"
+        if len(line) == 2 and any((one,) in now for one in line):
+            return "broken_alone"
+        return "mended" if self.open[place].isdisjoint([line, *((one,) for one in line)]) else "undecided"
 
     def state(self, key: str, known: set[str]) -> str:
         if key in self.new or key in self.new_sets:

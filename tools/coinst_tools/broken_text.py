@@ -12,7 +12,7 @@ KINDS = (
     ("names", "can no longer be installed"), ("pairs", "can no longer be installed together"),
     ("sets", "of three names and more can no longer be installed together, though each smaller set can"),
 )
-FATES = {"left": "a name left", "broken_alone": "a name is broken alone now", "allowed": "allowed now", "mended": "mended"}
+FATES = {"left": "a name left", "broken_alone": "a name is broken alone now", "allowed": "allowed now", "undecided": "undecided now", "mended": "mended"}
 FRESH = ("new", "grown")
 
 

@@ -15,6 +15,7 @@ import functools
 import gc
 import importlib
 import io
+import itertools
 import operator
 import os
 import re
@@ -39,6 +40,7 @@ FIRST_LINE = re.compile(rb"(?:[ \t]*\n)*")
 PROVIDED = re.compile(r"(?:^|,)\s*([^\s:(,|]+)(?::([^\s(,|]+))?\s*(?:\(\s*=\s*([^\s),|]+)\s*\))?\s*(?=,|$)")
 KINDS = [(kind.encode(), kind) for kind in NEED + AGAINST + ("provides",)]
 ATOM = re.compile(r"\s*([^\s:(]+)(?::([^\s(]+))?\s*(?:\(\s*(<<|<=|=|>=|>>|<|>)\s*([^\s)]+)\s*\))?\s*$")
+DIGITS = re.compile(r"[0-9][0-9.]*")
 PACKED = {b"\x1f\x8b": "gzip", b"\xfd7zXZ\x00": "xz", b"BZh": "bzip2", b"\x28\xb5\x2f\xfd": "zstd", b"\x04\x22\x4d\x18": "lz4"}
 UNPACKERS = {"gzip": "gzip", "xz": "lzma", "bzip2": "bz2"}
 PLACE = operator.attrgetter("place")
@@ -462,6 +464,21 @@ class Index:
             if found := [other for other in self.sorted_offers[first : first + 3] if other.startswith(stem + "-")]:
                 return self.offers[found[0]][0][0], found
         return None, []
+
+    def other_versions(self, name: str) -> list[str]:
+        """The offered names that differ from a name in digits and dots alone: first those with as many dots, and of these the newest."""
+        start, shape = DIGITS.split(name)[0], DIGITS.sub("0", name)
+        first = bisect.bisect_left(self.sorted_offers, start)
+        near = itertools.takewhile(lambda other: other.startswith(start), self.sorted_offers[first:])
+        found = sorted((other for other in near if DIGITS.sub("0", other) == shape), key=version_key, reverse=True)
+        return sorted(found, key=lambda other: other.count(".") != name.count("."))
+
+    def other_hash(self, name: str) -> list[str]:
+        """The one offered name that has another hash at its end; none if several begin as the name does."""
+        found = self.alike(name)[1]
+        ends = [other.rpartition("-")[2] for other in (name, *found)]
+        is_hash = len(found) == 1 and len(ends[0]) == len(ends[1]) and DIGITS.search(ends[0] + ends[1])
+        return found if is_hash else []
 
     def newest(self, source: str) -> str | None:
         return max((p.source_version for p in self.built_from.get(source, ())), key=version_key, default=None)

@@ -121,8 +121,7 @@ class Phrases:
         """Why two packages conflict, with the first as the subject if it declares it."""
         if one.name == other.name:
             return "only one version of %s can be installed, and not %s with %s" % (one.name, one.version, other.version)
-        told = sorted(self.index.declared(one, other), key=lambda t: (not self.is_always(t[0], one, other), t[0] is not one, t[1] != "conflicts"))
-        mine, kind, text = told[0]
+        mine, kind, text = min(self.index.declared(one, other), key=lambda told: self.rank(told, one, other))
         his = other if mine is one else one
         new = " (new)" if self.older and self.older.is_new_conflict(mine, his) else ""
         atom = atoms_of(text)[0]
@@ -130,6 +129,12 @@ class Phrases:
             return "%s %s %s%s, which %s provides" % (self.name(mine), VERBS[kind], marked(text), new, self.name(his))
         here = " (here \x03%s\x04)" % his.version if atom.operator else ""
         return "%s %s %s%s%s" % (self.name(mine), VERBS[kind], marked(text) if atom.operator else self.name(his), here, new)
+
+    def rank(self, told: tuple[Package, str, str], one: Package, other: Package) -> tuple[bool, ...]:
+        """Which of the conflicts that two packages declare is told: the least, and at equal rank one by the other's own name."""
+        mine, kind, text = told
+        his = other if mine is one else one
+        return not self.is_always(mine, one, other), mine is not one, kind != "conflicts", atoms_of(text)[0].name != his.name
 
     def is_always(self, mine: Package, one: Package, other: Package) -> bool:
         """Whether all versions of the name of a package declare against all of the other's."""
@@ -148,7 +153,8 @@ class Phrases:
         """What the index has of a name."""
         offers = self.index.offers.get(name, [])
         if not offers:
-            near = self.index.alike(name)[1]
+            near = self.index.other_versions(name) or self.index.other_hash(name)
+            near[3:] = [".."] if len(near) > 3 else []
             return "no %s" % name + (", but %s" % ", ".join(near) if near else "")
         told = [self.by_itself(p, version) if p.name == name else self.by_another(p, name, version) for p, version in offers]
         return " and ".join(told[:3]) + (" and %d more" % (len(told) - 3) if len(told) > 3 else "")
@@ -234,6 +240,13 @@ class Teller:
             depends += ": only " + how
         return "%s; %s" % (depends, self.short(under))
 
+    def short_by(self, way: Way, how: str) -> str:
+        """The failure of a way, whose package is called as it satisfies the relation."""
+        name, told = self.phrases.name(way.package), self.short(way)
+        if not told.startswith(name):
+            return "%s: %s" % (how, told)
+        return how + ("," if how != name else "") + told[len(name) :]
+
     def is_short(self, way: Way) -> bool:
         return is_short(self.why, way, self.number)
 
@@ -266,11 +279,9 @@ class Teller:
 
     def case(self, way: Way, need: Need, indent: int, depth: int | None) -> Block:
         """One way to satisfy a relation, and how it fails."""
-        name = self.phrases.name(way.package)
+        how = self.phrases.name(way.package) if isinstance(need.owner, Goal) else self.phrases.offer(way.package, need.element)
         if self.is_short(way):
-            told = self.short(way)
-            return [Line(indent, "* ", told if told.startswith(name) else "%s: %s" % (name, told))]
-        how = name if isinstance(need.owner, Goal) else self.phrases.offer(way.package, need.element)
+            return [Line(indent, "* ", self.short_by(way, how))]
         if depth == 0:
             self.left_out += 1
             return [Line(indent, "* ", "with %s: it fails, in %d steps" % (how, lines_of(self.why, way.nogood)))]
@@ -391,7 +402,9 @@ class Telling:
         named: dict[str, list[tuple[Package, Block]]] = {}
         for way in need.ways:
             if way is not main:
-                named.setdefault(way.package.name, []).append((way.package, [Line(0, "", self.teller.short(way))]))
+                how = self.say.offer(way.package, need.element)
+                told = self.teller.short(way) if how == self.say.name(way.package) else self.teller.short_by(way, how)
+                named.setdefault(way.package.name, []).append((way.package, [Line(0, "", told)]))
         return [line for mine in named.values() for line in self.teller.grouped(mine)]
 
     def last_step(self, need: Need, way: Way, depends: str) -> None:
@@ -419,7 +432,7 @@ class Telling:
         names = [self.say.name(chain[0].owner), *(self.say.name(need.ways[0].package) for need in chain)]
         news = [place for place, need in enumerate(chain) if self.say.relation(need.owner, need.element).endswith("(new)")]
         told = [name + " (new)" if place - 1 in news else name for place, name in enumerate(names)]
-        self.out.append(Line(self.indent, "", "each depends on the next, which alone satisfies it: " + ", ".join(told)))
+        self.out.append(Line(self.indent, "", "each depends on something that only the next one is or provides: " + ", ".join(told)))
         self.last = chain[-1].ways[0].package
         return chain[-1].ways[0].nogood
 
